@@ -1,0 +1,11 @@
+//! Trees of the language and of the core: what a C program is after reading and lowering.
+//!
+//! The types here are those of the first form, a `main` of declarations, sums and a return. Each has
+//! the pure data of the whole language as its meaning (`specs/Core.antt`, `specs/Shown.antt`).
+#![tactic(auto)]
+
+mod core;
+
+pub use core::{
+    Contract, Core, CoreStep, Expression, Function, Link, Operand, Operator, Plain, Pure,
+};
