@@ -2,16 +2,16 @@
 use Rattle.std.specs.Prelude.{ℕ, List, [], map, Option, Some, fold, replicate}
 use Rattle.vf_base.specs.declared.int_type.IntType.TheVariants.{Int}
 use Rattle.vf_tree.specs.Core.{TypeTree, Integer, ArithmeticOperator, Add, Subtract, ExpressionTree, Read, Number, Arithmetic, StepTree, Set, Return, FunctionTree, ProgramTree}
-use Rattle.vf_tree.specs.declared.core.Operator.{Operator}
-use Rattle.vf_tree.specs.declared.core.Operator.TheVariants as operators
-use Rattle.vf_tree.specs.declared.core.Operand.{Operand}
-use Rattle.vf_tree.specs.declared.core.Operand.TheVariants as operands
-use Rattle.vf_tree.specs.declared.core.Link.{Link}
-use Rattle.vf_tree.specs.declared.core.Expression.{Expression}
-use Rattle.vf_tree.specs.declared.core.CoreStep.{CoreStep}
-use Rattle.vf_tree.specs.declared.core.CoreStep.TheVariants as steps
-use Rattle.vf_tree.specs.declared.core.Function.{Function}
-use Rattle.vf_tree.specs.declared.core.Plain.{Plain}
+use Rattle.vf_tree.specs.declared.unit.Operator.{Operator}
+use Rattle.vf_tree.specs.declared.unit.Operator.TheVariants as operators
+use Rattle.vf_tree.specs.declared.unit.Operand.{Operand}
+use Rattle.vf_tree.specs.declared.unit.Operand.TheVariants as operands
+use Rattle.vf_tree.specs.declared.unit.Link.{Link}
+use Rattle.vf_tree.specs.declared.unit.Expression.{Expression}
+use Rattle.vf_tree.specs.declared.unit.CoreStep.{CoreStep}
+use Rattle.vf_tree.specs.declared.unit.CoreStep.TheVariants as steps
+use Rattle.vf_tree.specs.declared.unit.Function.{Function}
+use Rattle.vf_tree.specs.declared.unit.Plain.{Plain}
 
 abbrev pub operator_of : Operator → ArithmeticOperator
 operator_of operators.Add = Add

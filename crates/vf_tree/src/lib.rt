@@ -4,8 +4,8 @@
 //! the pure data of the whole language as its meaning (`specs/Core.antt`, `specs/Shown.antt`).
 #![tactic(auto)]
 
-mod core;
+mod unit;
 
-pub use core::{
+pub use unit::{
     Contract, Core, CoreStep, Expression, Function, Link, Operand, Operator, Plain, Pure,
 };
