@@ -1,5 +1,5 @@
 -- What a caller may know of files, and of the counts by which the outside world answers for its faults.
-use Rattle.std.specs.Prelude.{◌≡◌, ◌≢◌, ℕ, ◌+◌, ◌≤◌, min, List, [], length, take, Option, Some, None, IfSome, IsSomeAnd, option_map, unwrap_or, ⊤}
+use Rattle.std.specs.Prelude.{◌≡◌, ◌≢◌, ℕ, ◌+◌, ◌≤◌, min, List, [], ◌++◌, length, take, Option, Some, None, IfSome, IsSomeAnd, option_map, unwrap_or, ⊤}
 use Rattle.std.specs.Ordering.{nat_cmp}
 use Rattle.std.specs.Cmp.Lexicographic.{slice_cmp}
 use Rattle.std.specs.FinMap.{FinMap, get, insert}
@@ -45,3 +45,11 @@ abbrev pub ChangesAtMost : Contents → Contents → List ℕ → Type 0
 ChangesAtMost (Some m) (Some n) path = (other : List ℕ) → other ≢ path → get n other ≡ get m other
 ChangesAtMost None None path = ⊤
 ChangesAtMost _ _ _ = ⊥
+
+-- where taken bytes are told, they grew by exactly these
+abbrev pub Takes : Option (List ℕ) → Option (List ℕ) → List ℕ → Type 0
+Takes old new bytes = new ≡ option_map (λ taken. taken ++ bytes) old
+
+-- where taken bytes are told, they grew by a front of the piece
+abbrev pub TakesFront : Option (List ℕ) → Option (List ℕ) → List ℕ → Type 0
+TakesFront old new piece = (n : ℕ) × (n ≤ length piece) × Takes old new (take n piece)

@@ -29,6 +29,6 @@ pub use place::Place;
 pub use refusal::{Refusal, RuleFault, Shown};
 pub use rule::Rule;
 pub use sequence::{NumberList, Sequence};
-pub use sink::{Sink, SinkFault};
+pub use sink::{Sink, SinkFault, write_all};
 pub use sure::{SureFiles, SureSink};
 pub use text::Text;
