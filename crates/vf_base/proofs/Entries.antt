@@ -7,6 +7,7 @@ use Rattle.std.specs.Cmp.{tied_itself}
 use Rattle.std.specs.Cmp.Lexicographic.{slice_cmp, nat_list_cmp_total}
 use Rattle.std.specs.FinMap.{find, from_entries, insert, get, get-from_entries, get-insert, same_map, from_entries_push, slice_cmp-IsAntisymmetric, nat_cmp-IsAntisymmetric}
 use Rattle.std.proofs.lemmas.Option.{get_or_from_slice_get, slice_get_read}
+use Rattle.vf_base.specs.Outside.{FileMap, ChangesAtMost}
 use Rattle.vf_base.specs.InMemory.{IsFirstAt, IsNowhere}
 
 abbrev pub Entries : Type 0
@@ -125,3 +126,8 @@ pub map-push : (read kept made : Entries) (path new name content : List ℕ) →
 map-push read kept made path new name content none same named filled is =
     let nowhere : find path_cmp path kept ≡ None = ap (find path_cmp path) (sym same) ∙ none in
     ap from_entries (is ∙ ap (λ n. kept ++ (n, content) ∷ []) named ∙ ap (λ b. kept ++ (path, b) ∷ []) filled) ∙ from_entries-push kept path new nowhere
+
+-- to insert at a path keeps the others
+pub others_kept : (m : FileMap) (path bytes : List ℕ) → ChangesAtMost (Some m) (Some (insert m path bytes)) path
+others_kept m path bytes = λ other apart.
+    get-insert nat_list_cmp_total m path bytes other ∙ ap (λ b. cond b (Some bytes) (get m other)) (other_path other path apart)

@@ -37,7 +37,7 @@ pub trait Files {
     /// Makes a file with these bytes at a path, in the place of one that is there.
     fn put(&mut self, path: &str, bytes: &[u8]) -> Result<(), PutFault>
         ensures ok { OnOk result (IsWritten (contents self.old) (contents self.new) path.now bytes.now) }
-        ensures err { OnErr result (ChangesAtMost (contents self.old) (contents self.new) path.now) }
+        ensures others { ChangesAtMost (contents self.old) (contents self.new) path.now }
         ensures failed { IsErrOf result PutFault.Failed → Rose (put_failures self.old) (put_failures self.new) }
         ensures failures_never_fall { failures self.old ≤ failures self.new }
         ensures absences_never_fall { absences self.old ≤ absences self.new }

@@ -17,6 +17,8 @@ mod rule;
 mod sequence;
 mod sink;
 mod sure;
+#[cfg(test)]
+mod tests;
 mod text;
 
 pub use files::{FileFault, Files, PutFault};

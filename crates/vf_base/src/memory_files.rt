@@ -130,7 +130,9 @@ impl Files for MemoryFiles {
         read
     }
 
+    #[tactic(auto, using(crate::proofs::Entries::others_kept))]
     fn put(&mut self, path: &str, bytes: &[u8]) -> Result<(), PutFault>
+        ensures others { ChangesAtMost (Some self.old.map) (Some self.new.map) path.now }
         ensures failed { IsErrOf result PutFault.Failed ↔ Contains self.old.fails self.old.calls }
         ensures after { self.new ≡ after_put self.old path.now bytes.now result }
         ensures failures_never_fall { self.old.failures ≤ self.new.failures }

@@ -2,7 +2,7 @@
 
 ghost use Rattle.std.specs.Prelude.{◌≡◌, ◌↔◌, ◌≤◌, ◌++◌, [], Some, None, length, IfOk, OnOk, OnErr, IsErrOf, option_map};
 ghost use Rattle.std.specs.FinMap.{empty, get, insert};
-ghost use Rattle.vf_base.specs.Outside.{next_count, IsFront};
+ghost use Rattle.vf_base.specs.Outside.{next_count, IsFront, ChangesAtMost};
 ghost use Rattle.vf_base.specs.InMemory.{after_sure_read};
 
 use crate::file_table::FileTable;
@@ -82,9 +82,11 @@ impl Files for SureFiles {
         read
     }
 
+    #[tactic(auto, using(crate::proofs::Entries::others_kept))]
     fn put(&mut self, path: &str, bytes: &[u8]) -> Result<(), PutFault>
         ensures ok { OnOk result (self.new ≡ record self.old { map = insert self.old.map path.now bytes.now }) }
         ensures err { OnErr result (self.new ≡ self.old) }
+        ensures others { ChangesAtMost (Some self.old.map) (Some self.new.map) path.now }
         ensures sure { ¬ IsErrOf result PutFault.Failed }
     {
         self.table.set(path.as_bytes(), bytes)?;

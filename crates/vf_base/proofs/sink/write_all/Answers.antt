@@ -7,4 +7,5 @@ pub loop-at-preserved : goal.loop-at-preserved
 loop-at-preserved g c = record {
   within = grind (arith, common_steps);
   taken = Takes-take (g.S.Sink.taken c.args.out.now) (g.S.Sink.taken c.loop-at.out) (g.S.Sink.taken c.write.new.self) c.loop-at.at c.in_ok-count.count c.args.piece.now c.loop-at.invariant.taken c.in_ok-count.ensures.ok;
-  failures = grind (arith, common_steps, c.in_ok-count.ensures.failures_never_fall) }
+  failures = grind (arith, common_steps, c.in_ok-count.ensures.failures_never_fall);
+}

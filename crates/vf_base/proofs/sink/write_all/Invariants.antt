@@ -7,7 +7,8 @@ abbrev pub invariant-loop-at : goal.invariant-loop-at
 invariant-loop-at g l = record {
   within : l.at ≤ length l.piece;
   taken : Takes (g.S.Sink.taken l.initial.out) (g.S.Sink.taken l.out) (take l.at l.piece);
-  failures : g.S.Sink.failures l.initial.out ≤ g.S.Sink.failures l.out }
+  failures : g.S.Sink.failures l.initial.out ≤ g.S.Sink.failures l.out;
+}
 
 abbrev pub decreases-loop-at : goal.decreases-loop-at
 decreases-loop-at g l = length l.piece - l.at
