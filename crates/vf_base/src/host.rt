@@ -1,6 +1,7 @@
 //! The files of the host, and its standard output.
 
-ghost use Rattle.std.specs.Prelude.{◌≡◌, ◌+◌, ◌≤◌, [], length, IfOk, OnErr};
+ghost use Rattle.std.specs.Prelude.{◌≡◌, ◌+◌, ◌≤◌, ◌↔◌, [], length, IfOk};
+ghost use Rattle.std.specs.IoError.{error_kind};
 ghost use Rattle.vf_base.specs.Host.{after_host_read, after_host_put, after_host_write};
 
 use crate::files::{FileFault, Files, PutFault};
@@ -104,7 +105,9 @@ fn read_path<R: rt::Files>(
 }
 
 /// Why a file could not be opened: only where the host finds none is it missing.
-fn fault_of(error: &io::Error) -> FileFault {
+fn fault_of(error: &io::Error) -> FileFault
+    ensures { result ≡ FileFault.Missing ↔ error_kind error.now ≡ ErrorKind.NotFound }
+{
     if error.kind() == ErrorKind::NotFound {
         FileFault::Missing
     } else {
