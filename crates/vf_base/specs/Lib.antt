@@ -1,1 +1,4 @@
+pub mod Host
+pub mod InMemory
+pub mod Outside
 pub mod Rule

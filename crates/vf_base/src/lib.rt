@@ -4,18 +4,33 @@
 //! The traits [`Files`] and [`Sink`] say what may be known of files and of what is written.
 #![tactic(auto)]
 
+mod file_table;
+mod files;
+mod host;
 mod int_type;
 mod memory;
+mod memory_files;
+mod memory_sink;
 mod place;
 mod refusal;
 mod rule;
 mod sequence;
+mod sink;
+mod sure;
+#[cfg(test)]
+mod tests;
 mod text;
 
+pub use files::{FileFault, Files, PutFault};
+pub use host::{HostFiles, HostSink};
 pub use int_type::IntType;
 pub use memory::Memory;
+pub use memory_files::MemoryFiles;
+pub use memory_sink::MemorySink;
 pub use place::Place;
 pub use refusal::{Refusal, RuleFault, Shown};
 pub use rule::Rule;
 pub use sequence::{NumberList, Sequence};
+pub use sink::{Sink, SinkFault, write_all};
+pub use sure::{SureFiles, SureSink};
 pub use text::Text;

@@ -1,6 +1,6 @@
 //! Lists that contracts see as lists.
 
-ghost use Rattle.std.specs.Prelude.{◌≡◌, [], ◌∷◌, ◌++◌, ◌<◌, ◌↔◌, length, slice_get, slice_set, IfOk, IsTrue, OnOk, OnErr};
+ghost use Rattle.std.specs.Prelude.{◌≡◌, [], ◌∷◌, ◌++◌, ◌<◌, ◌↔◌, length, Contains, slice_get, slice_set, IfOk, IsTrue, OnOk, OnErr};
 ghost use Rattle.std.specs.Option.{option_copied};
 
 use crate::memory::Memory;
@@ -93,5 +93,14 @@ impl<T: Copy> Sequence<T> {
         let alloc = *self.items.allocator();
         let items = Vec::from_slice(alloc, self.items.as_slice())?;
         Ok(Sequence { items })
+    }
+}
+
+impl Sequence<u64> {
+    /// Whether a number is one of its items.
+    pub fn contains(&self, number: u64) -> bool
+        ensures { IsTrue result ↔ Contains self.now number }
+    {
+        self.items.contains(&number)
     }
 }

@@ -87,6 +87,13 @@ impl Text {
         Ok(Text { bytes })
     }
 
+    /// Whether these are its bytes.
+    pub fn has_bytes(&self, bytes: &[u8]) -> bool
+        ensures { IsTrue result ↔ (self.now ≡ bytes.now) }
+    {
+        self.bytes.as_slice() == bytes
+    }
+
     /// Whether two texts have the same bytes.
     pub fn same(&self, other: &Text) -> bool
         ensures { IsTrue result ↔ (self.now ≡ other.now) }
