@@ -4,6 +4,7 @@
 //! The traits [`Files`] and [`Sink`] say what may be known of files and of what is written.
 #![tactic(auto)]
 
+mod decimal;
 mod int_type;
 mod memory;
 mod place;
@@ -12,6 +13,7 @@ mod rule;
 mod sequence;
 mod text;
 
+pub use decimal::{decimal_front, one_decimal_front};
 pub use int_type::IntType;
 pub use memory::Memory;
 pub use place::Place;
