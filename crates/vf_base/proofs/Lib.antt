@@ -1,2 +1,3 @@
+pub mod DecimalLaws
 pub mod Entries
 pub mod Taken

@@ -1,3 +1,4 @@
+pub mod Decimal
 pub mod Host
 pub mod InMemory
 pub mod Outside

@@ -4,6 +4,7 @@
 //! The traits [`Files`] and [`Sink`] say what may be known of files and of what is written.
 #![tactic(auto)]
 
+mod decimal;
 mod file_table;
 mod files;
 mod host;
@@ -21,6 +22,7 @@ mod sure;
 mod tests;
 mod text;
 
+pub use decimal::{decimal_front, one_decimal_front};
 pub use files::{FileFault, Files, PutFault};
 pub use host::{HostFiles, HostSink};
 pub use int_type::IntType;

@@ -39,3 +39,14 @@ impl From<Memory> for RuleFault {
         RuleFault::Memory
     }
 }
+
+impl From<Refusal> for RuleFault {
+    ghost use Rattle.std.specs.Prelude.{◌≡◌};
+    ghost use Rattle.vf_base.specs.declared.refusal.RuleFault.TheVariants as faults;
+
+    ghost from_gives = { λ refusal e. e ≡ faults.Refused refusal };
+
+    fn from(refusal: Refusal) -> RuleFault {
+        RuleFault::Refused(refusal)
+    }
+}
