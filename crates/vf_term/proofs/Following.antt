@@ -1,5 +1,5 @@
 -- Following courses: what the calls of an asker and of rules come to.
-use Rattle.std.proofs.Common.{◌≡◌, ◌⊎◌, inl, inr, ℕ, ◌+◌, ◌<◌, ◌≤◌, refl, subst, sym, ◌∙◌, ap, Result, Ok, Err, Bool, true, false, cond, List, [], ◌∷◌, ◌++◌, length, arith}
+use Rattle.std.proofs.Common.{◌≡◌, inl, inr, ◌+◌, ◌<◌, ◌≤◌, refl, subst, sym, ap, Result, Ok, Err, Bool, true, false, cond, length}
 use Rattle.std.specs.Prelude.{IsTrue}
 use Rattle.vf_base.specs.declared.place.Place.{Place}
 use Rattle.vf_base.specs.declared.rule.Rule.TheVariants.{Paths, Terms}
@@ -8,7 +8,6 @@ use Rattle.vf_base.specs.declared.refusal.RuleFault.{RuleFault}
 use Rattle.vf_base.specs.declared.refusal.RuleFault.TheVariants.{Refused, Memory}
 use Rattle.vf_trail.specs.declared.node.Node.{Node}
 use Rattle.vf_trail.specs.declared.trail.TheConstants.{MOST_FACTS}
-use Rattle.vf_term.specs.declared.answers.Answer.{Answer}
 use Rattle.vf_term.specs.declared.answers.Answer.TheVariants.{Proved, Unknown}
 use Rattle.vf_term.specs.declared.literal.Literal.{Literal}
 use Rattle.vf_term.specs.declared.journal.Journal.{Journal}

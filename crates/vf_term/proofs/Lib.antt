@@ -1,2 +1,4 @@
 pub mod Seeing
 pub mod Following
+pub mod Determined
+pub mod Sound

@@ -1,5 +1,5 @@
 -- What rules see of a journal as it grows.
-use Rattle.std.proofs.Common.{◌≡◌, ℕ, ◌+◌, ◌-◌, ◌<◌, ◌≤◌, zero, suc, List, [], ◌∷◌, ◌++◌, length, refl, sym, ap, ◌∙◌, subst, arith, append_assoc, length-append}
+use Rattle.std.proofs.Common.{◌≡◌, ℕ, ◌+◌, ◌-◌, ◌<◌, ◌≤◌, suc, List, [], ◌∷◌, ◌++◌, length, refl, sym, ap, ◌∙◌, arith, append_assoc, length-append}
 use Rattle.std.specs.Prelude.{map, All}
 use Rattle.std.proofs.lemmas.List.{map-append, append-nil}
 use Rattle.vf_trail.specs.declared.node.Node.{Node}
@@ -117,4 +117,12 @@ pub root_path : (node : Node) (j : Journal) → node.number ≡ 0 → path_at j 
 unfolding path_at
 root_path node j e = ap (λ n. path_of j.trail.facts n) e ∙ path_root j.trail.facts
 
+-- after a unit is begun, one is
+pub begun_first : (defs : Definitions) (j k : Journal) → HasBegun defs j k → 0 < length k.units
+begun_first defs j k b = omega (arith, ap length b.units, length-append j.units (defs ∷ []))
+
+-- what a beginning comes to
+pub ruleset beginning = (seen_begun, begun_first, root_node, root_path)
+
+-- what stays as pushes and questions come
 pub ruleset grown = (grew_not, grew_before, grew_on, grew_node, grew_path, grew_begun, grew_units, root_node, root_path)

@@ -1,5 +1,5 @@
 -- The closure of a question, and its plain refutations.
-use Rattle.std.specs.Prelude.{◌≡◌, ◌≢◌, ℤ, pos, negsuc, ◌+ℤ◌, ◌-ℤ◌, neg_ℤ, ◌≤ℤ◌, Bool, List, [], ◌∷◌, ◌++◌, Contains, IsTrue}
+use Rattle.std.specs.Prelude.{◌≢◌, ℤ, pos, negsuc, ◌+ℤ◌, ◌-ℤ◌, neg_ℤ, ◌≤ℤ◌, Bool, List, [], ◌∷◌, ◌++◌, Contains, IsTrue}
 use Rattle.vf_term.specs.Term.{TermTree, Number, Truth}
 use Rattle.vf_term.specs.Literals.{terms_of, zero_term, is_integer}
 use Rattle.vf_term.specs.declared.literal.Literal.{Literal}

@@ -9,3 +9,4 @@ pub mod Course
 pub mod Runs
 pub mod Closure
 pub mod Right
+pub mod Laws

@@ -1,5 +1,5 @@
 -- The terms of a question, and their limit.
-use Rattle.std.specs.Prelude.{ℤ, ℕ, Bool, false, ◌||◌, not, if◌then◌else◌, nat_lt, List, [], ◌∷◌, ◌++◌, length}
+use Rattle.std.specs.Prelude.{ℕ, Bool, false, ◌||◌, not, if◌then◌else◌, nat_lt, List, [], ◌∷◌, ◌++◌, length}
 use Rattle.std.specs.Ordering.{int_eq}
 use Rattle.std.specs.List.{flat_map}
 use Rattle.vf_term.specs.Term.{TermTree, Number, Truth}

@@ -1,5 +1,5 @@
 -- What literals mean, and which answers are right.
-use Rattle.std.specs.Prelude.{◌≡◌, ◌≢◌, ◌↔◌, ℕ, ◌≤◌, ◌+ℤ◌, ◌≤ℤ◌, List, drop, length, All, Contains}
+use Rattle.std.specs.Prelude.{◌≡◌, ◌≢◌, ℕ, ◌+ℤ◌, ◌≤ℤ◌, List, drop, All, Contains}
 use Rattle.vf_model.specs.Values.{Value, number_of}
 use Rattle.vf_model.specs.Values as values
 use Rattle.vf_term.specs.Term.{TermTree, Number, Truth}

@@ -10,6 +10,7 @@ mod answers;
 mod ask;
 mod asker;
 mod journal;
+mod laws;
 mod literal;
 mod term;
 
@@ -17,5 +18,9 @@ pub use answers::Answer;
 pub use ask::{holds, note};
 pub use asker::{AskFault, Asker};
 pub use journal::{Definitions, DefinitionsList, Entry, EntryList, Journal};
+pub use laws::{
+    courses_are_determined, courses_only_append, refutations_are_sound,
+    right_courses_are_determined,
+};
 pub use literal::{Literal, LiteralList};
 pub use term::Term;

@@ -1,4 +1,4 @@
-use Rattle.vf_term.proofs.Seeing.{seen_nothing, seen_before}
+use Rattle.vf_term.proofs.Seeing.{seen_nothing}
 use Rattle.vf_term.proofs.journal.Journal.new.Goals as goal
 
 pub returns-clause-seen : goal.returns-clause-seen
