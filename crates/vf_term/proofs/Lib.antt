@@ -2,3 +2,4 @@ pub mod Seeing
 pub mod Following
 pub mod Determined
 pub mod Sound
+pub mod Kept

@@ -10,3 +10,4 @@ pub mod Runs
 pub mod Closure
 pub mod Right
 pub mod Laws
+pub mod Faults

@@ -5,7 +5,7 @@ use crate::journal::{Definitions, Journal};
 use crate::literal::Literal;
 use std::alloc::{AllocError, AllocFailed};
 use vf_base::Memory;
-use vf_trail::{MOST_FACTS, Node};
+use vf_trail::{MOST_FACTS, Node, TrailFault};
 
 /// Why a unit is not begun, a fact not taken or a question not answered.
 #[derive(Clone, Copy, Debug, PartialEq, Eq)]
@@ -50,6 +50,20 @@ impl<T: Drop> From<AllocFailed<T>> for AskFault {
     }
 }
 
+impl From<TrailFault> for AskFault {
+    ghost use Rattle.vf_term.specs.Faults.{ask_fault_of};
+    ghost use Rattle.std.specs.Prelude.{◌≡◌};
+
+    ghost from_gives = { λ fault e. e ≡ ask_fault_of fault };
+
+    fn from(fault: TrailFault) -> AskFault {
+        match fault {
+            TrailFault::Full => AskFault::Full,
+            TrailFault::Memory => AskFault::Memory,
+        }
+    }
+}
+
 /// Begins units, takes facts and answers questions, each with its line in a journal. Any answer is
 /// allowed here; a refused call leaves the journal as it was.
 pub trait Asker {
@@ -90,7 +104,8 @@ pub trait Asker {
         requires there { HasNode (journal self.old) at }
         requires sorted { IsWellSorted goal.now }
         ensures asked { IfOk result (λ answer. HasAsked at goal.now answer (journal self.old) (journal self.new)) }
-        ensures terms { IsErrOf result AskFault.Terms ↔ IsTrue (has_too_many_terms (path_at (journal self.old) at) goal.now) }
+        ensures terms { IsErrOf result AskFault.Terms → IsTrue (has_too_many_terms (path_at (journal self.old) at) goal.now) }
+        ensures few { OnOk result (IsTrue (has_too_many_terms (path_at (journal self.old) at) goal.now) → ⊥) }
         ensures never_full { IsErrOf result AskFault.Full → ⊥ }
         ensures unchanged { OnErr result (IsAsBefore (journal self.old) (journal self.new)) }
         ensures origin { origin self.new ≡ origin self.old };

@@ -1,6 +1,6 @@
 -- Paths under a push, and step by step.
-use Rattle.std.proofs.Common.{◌≡◌, ℕ, ◌+◌, ◌≤◌, suc, zero, List, [], ◌∷◌, ◌++◌, length, take, drop, refl, sym, ap, ◌∙◌, arith, Some, eq-eqb, append_assoc, length-append, length-take}
-use Rattle.std.specs.Prelude.{reverse, slice_get}
+use Rattle.std.proofs.Common.{◌≡◌, ℕ, ◌+◌, ◌≤◌, suc, zero, ◌<◌, List, [], ◌∷◌, ◌++◌, length, take, drop, refl, sym, ap, ◌∙◌, arith, Option, Some, None, eq-eqb, append_assoc, length-append, length-take}
+use Rattle.std.specs.Prelude.{◌-◌, option_map, reverse, slice_get}
 use Rattle.std.proofs.lemmas.List.{reverse-append, length-reverse, append-nil}
 use Rattle.std.proofs.lemmas.Bool.{ne_eqb}
 use Rattle.std.proofs.lemmas.Option.{slice_get_within}
@@ -40,6 +40,11 @@ pub path_root : {L : Type 0} (facts : List (ℕ × L)) → path_of facts 0 ≡ [
 unfolding path_of
 path_root facts = path_root_in (reverse facts)
 
+-- a pair is known by its parts
+both_parts : {A B : Type 0} (o : Option (A × B)) (a : A) (b : B) → option_map (λ row. row.0) o ≡ Some a → option_map (λ row. row.1) o ≡ Some b → o ≡ Some (a, b)
+both_parts None a b p q = cc
+both_parts (Some (x, y)) a b p q = cc
+
 -- a list is what stands before an item, the item, and what stands after it
 pub split_at : {L : Type 0} (xs : List L) (k : ℕ) (x : L) → slice_get xs k ≡ Some x → xs ≡ take k xs ++ x ∷ drop (suc k) xs
 split_at [] k x e = cc
@@ -69,3 +74,10 @@ paths_stay = record { kept = path_kept; added = path_added }
 
 pub paths_step : {L : Type 0} → PathsStep L
 paths_step = record { root = path_root; step = path_step }
+
+-- a path is the path of the parent that the trail has for it, and the fact that it has for it
+pub path_parent : {L : Type 0} (facts : List (ℕ × L)) (node parent : ℕ) (fact : L) → 0 < node → ParentsFall facts → option_map (λ row. row.0) (slice_get facts (node - 1)) ≡ Some parent → option_map (λ row. row.1) (slice_get facts (node - 1)) ≡ Some fact → path_of facts node ≡ path_of facts parent ++ fact ∷ []
+path_parent facts node parent fact low falls p q =
+    let e = both_parts (slice_get facts (node - 1)) parent fact p q in
+    let same : node - 1 + 1 ≡ node = omega arith in
+    rw same at (path_step facts (node - 1) parent fact falls e)

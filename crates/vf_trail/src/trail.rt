@@ -1,7 +1,7 @@
 //! The trail.
 
 ghost use Rattle.std.specs.Prelude.{◌≡◌, [], ◌∷◌, ◌++◌, ◌+◌, ◌-◌, ◌<◌, ◌≤◌, ◌↔◌, length, IfOk, IsErrOf, OnErr, OnOk, Some, option_map, slice_get};
-ghost use Rattle.vf_trail.specs.Trail.{PathsStay, PathsStep};
+ghost use Rattle.vf_trail.specs.Trail.{PathsStay, PathsStep, path_of};
 ghost use Rattle.vf_trail.specs.Falls.{ParentsFall};
 
 use crate::node::Node;
@@ -83,6 +83,11 @@ impl<L> Trail<L> {
         self.rows.len()
     }
 
+    /// The allocator that the trail grows by.
+    pub fn allocator(&self) -> Global {
+        *self.rows.allocator()
+    }
+
     /// Makes room for `n` more facts, so that the next `n` pushes take no memory.
     pub fn reserve(&mut self, n: u32) -> Result<(), TrailFault>
         ensures unchanged { self.new.facts ≡ self.old.facts }
@@ -103,7 +108,7 @@ impl<L> Trail<L> {
         requires there { node.number ≤ length self.now.facts }
         ensures { option_map (λ row. row.1) (slice_get self.now.facts (node.number - 1)) ≡ Some result.now }
     {
-        &self.rows[node.number as usize - 1].1
+        &self.row(node).1
     }
 
     /// The node that a node hangs on.
@@ -112,10 +117,22 @@ impl<L> Trail<L> {
         requires there { node.number ≤ length self.now.facts }
         ensures parent { option_map (λ row. row.0) (slice_get self.now.facts (node.number - 1)) ≡ Some result.number }
         ensures falls { result.number < node.number }
+        ensures path { (fact : L)
+            → option_map (λ row. row.1) (slice_get self.now.facts (node.number - 1)) ≡ Some fact
+            → path_of self.now.facts node.number ≡ path_of self.now.facts result.number ++ fact ∷ [] }
     {
         Node {
-            number: self.rows[node.number as usize - 1].0,
+            number: self.row(node).0,
         }
+    }
+
+    fn row(&self, node: Node) -> &(u32, L)
+        requires other_than_root { 0 < node.number }
+        requires there { node.number ≤ length self.now.facts }
+        ensures row { slice_get self.now.facts (node.number - 1) ≡ Some result.now }
+        ensures parents_fall { ParentsFall self.now.facts }
+    {
+        &self.rows[node.number as usize - 1]
     }
 }
 
