@@ -1,0 +1,5 @@
+pub mod Seeing
+pub mod Following
+pub mod Determined
+pub mod Sound
+pub mod Kept

@@ -1,0 +1,13 @@
+pub mod Term
+pub mod Shown
+pub mod Numbers
+pub mod Literals
+pub mod Question
+pub mod Whole
+pub mod Journal
+pub mod Course
+pub mod Runs
+pub mod Closure
+pub mod Right
+pub mod Laws
+pub mod Faults
