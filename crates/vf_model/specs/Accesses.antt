@@ -1,5 +1,5 @@
 -- Steps that read, write, allocate and free cells.
-use Rattle.std.specs.Prelude.{ℕ, Bool, true, false, cond, Option, Some, None, ℤ, pos, zero, ◌+ℤ◌, int_lt, unsigned_abs, List}
+use Rattle.std.specs.Prelude.{ℕ, Bool, true, false, cond, Option, Some, None, ℤ, pos, ◌+ℤ◌, int_lt, unsigned_abs}
 use Rattle.std.specs.FinMap as map
 use Rattle.std.specs.Ordering.{int_eq}
 use Rattle.std.specs.List.{find}
@@ -9,8 +9,8 @@ use Rattle.std.specs.Prelude.{length}
 use Rattle.vf_model.specs.declared.words.FaultKind.TheVariants as faults
 use Rattle.vf_model.specs.Values.{Value, same_identity}
 use Rattle.vf_model.specs.Values as values
-use Rattle.vf_model.specs.Memory.{Memory, Block, Struct, Ints, Cell, block_at, pointed_at, block_number, content, written, unset_cells, is_place_in, is_struct_block, is_int_block}
-use Rattle.vf_model.specs.State.{State, Turn, goes_on, sets, over_memory}
+use Rattle.vf_model.specs.Memory.{Block, Struct, Ints, Cell, block_at, pointed_at, block_number, content, written, unset_cells, is_place_in}
+use Rattle.vf_model.specs.State.{Turn, goes_on, sets, over_memory}
 use Rattle.vf_model.specs.Acts.{Touch, Act, Goes, Touches, Allocates, Faults}
 
 abbrev pub touch_of : Cell → Bool → Place → Touch

@@ -1,5 +1,5 @@
 -- Calls: of functions with a body, which make a frame, and of the prelude's functions, which are done in the one step.
-use Rattle.std.specs.Prelude.{ℕ, zero, suc, ◌+◌, Bool, true, false, cond, ◌&&◌, ◌==◌, List, [], ◌∷◌, ◌++◌, length, slice_get, Option, Some, None, ℤ, pos, unsigned_abs}
+use Rattle.std.specs.Prelude.{ℕ, Bool, true, false, cond, ◌==◌, List, [], ◌∷◌, ◌++◌, length, slice_get, Option, Some, None, ℤ, pos, unsigned_abs}
 use Rattle.std.specs.FinMap as map
 use Rattle.std.specs.Fmt.{signed_decimal}
 use Rattle.std.specs.Int.{int_rem_euclid}
@@ -9,7 +9,7 @@ use Rattle.vf_model.specs.declared.words.FaultKind.TheVariants as faults
 use Rattle.vf_model.specs.Values.{Value, number_of, same_signature}
 use Rattle.vf_model.specs.Values as values
 use Rattle.vf_model.specs.PreludeFunctions.{PreludeFunction, Abort, PutChar, PrintInt, ThreadStart, ThreadStartJoinable, ThreadJoin, CreateMutex, MutexAcquire, MutexRelease, MutexDispose, prelude_named, signature_of, run_signature}
-use Rattle.vf_model.specs.Memory.{Memory, Block, Mutex, Handle, pointed_at, block_number}
+use Rattle.vf_model.specs.Memory.{Block, Mutex, Handle, pointed_at, block_number}
 use Rattle.vf_model.specs.State.{Frame, Thread, State, Returned, Aborted, Turn, entered, function_named, at_step, with_result, with_frames, goes_on, receives, over_memory, after_output, after_start, ended}
 use Rattle.vf_model.specs.Acts.{Act, Goes, Allocates, Waits, Faults}
 
@@ -78,8 +78,8 @@ starts_joinable turn target given place next None = Faults faults.Pointer place
 starts_joinable turn target given place next (Some run) =
     let started = after_start turn (entered run.0 run.1 (given ∷ []) None) in
     Allocates (ended turn.state Aborted) (λ b. receives
-        (over_memory started (map.insert turn.state.memory b (Handle (length turn.state.threads) (run.1).identity given)))
-        target (values.Pointer b (pos 0)) next)
+    (over_memory started (map.insert turn.state.memory b (Handle (length turn.state.threads) (run.1).identity given)))
+    target (values.Pointer b (pos 0)) next)
 
 -- what a call of a prelude function does
 abbrev pub calls_prelude : ProgramTree → Turn → Option ℕ → List Value → Place → ℕ → PreludeFunction → Act

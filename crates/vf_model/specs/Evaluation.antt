@@ -1,6 +1,6 @@
 -- What an expression gives: a value, or the first fault in the order of evaluation, operands from left to right (the profile of C11 6.5 that has no other order).
 -- In a typed program an arithmetic operand is a number. Any other value counts as the number 0 there, so that evaluation is defined throughout.
-use Rattle.std.specs.Prelude.{ℕ, Bool, cond, List, [], ◌∷◌, slice_get, Option, Some, None, ℤ, pos, neg_ℤ}
+use Rattle.std.specs.Prelude.{cond, List, [], ◌∷◌, slice_get, Option, Some, ℤ, neg_ℤ}
 use Rattle.vf_base.specs.declared.place.Place.{Place}
 use Rattle.vf_base.specs.declared.int_type.IntType.{IntType}
 use Rattle.vf_tree.specs.Core.{ArithmeticOperator, ExpressionTree, Read, Number, Truth, Null, Function, Negate, Arithmetic, Convert}

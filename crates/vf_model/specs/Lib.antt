@@ -10,3 +10,4 @@ pub mod Calls
 pub mod Steps
 pub mod Runs
 pub mod Races
+pub mod Laws

@@ -1,5 +1,5 @@
 -- Memory: blocks by number. A block is a struct's, an array of int, a mutex or a thread's handle.
-use Rattle.std.specs.Prelude.{◌≡◌, ℕ, zero, suc, ◌+◌, ◌<◌, ◌≤◌, Bool, true, false, cond, ◌&&◌, ◌==◌, nat_lt, List, [], ◌∷◌, length, slice_get, slice_set, Option, Some, None, ℤ, pos, negsuc, ◌+ℤ◌, replicate, IsTrue, IsFalse}
+use Rattle.std.specs.Prelude.{ℕ, zero, suc, ◌<◌, ◌≤◌, Bool, true, false, cond, nat_lt, List, [], length, slice_get, slice_set, Option, Some, None, ℤ, pos, ◌+ℤ◌, replicate, IsTrue, IsFalse}
 use Rattle.std.specs.Ordering.{nat_cmp}
 use Rattle.std.specs.FinMap as map
 use Rattle.vf_tree.specs.Core.{Identity, Field}

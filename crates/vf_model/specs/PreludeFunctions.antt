@@ -1,6 +1,6 @@
 -- The functions that programs call and no program has a body of: those of <stdlib.h>, <stdio.h>, <vf_output.h> and <threading.h>.
 -- (malloc and free are core steps of their own.)
-use Rattle.std.specs.Prelude.{ℕ, Bool, List, [], ◌∷◌, Option, codes}
+use Rattle.std.specs.Prelude.{List, [], ◌∷◌, Option, codes}
 use Rattle.std.specs.List.{find}
 use Rattle.vf_base.specs.declared.int_type.IntType.TheVariants as types
 use Rattle.vf_tree.specs.Core.{Identity, TypeTree, Void, Integer, PointerToVoid, PointerToStruct, Signature}

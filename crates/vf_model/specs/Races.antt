@@ -1,5 +1,5 @@
 -- Data races: two threads whose next steps touch one cell, one of them writing it or freeing its block (after C11 5.1.2.4p25, where the order of two steps is any).
-use Rattle.std.specs.Prelude.{◌≡◌, ◌≢◌, ℕ, Bool, true, ◌||◌, Option, Some, None, IsTrue}
+use Rattle.std.specs.Prelude.{◌≡◌, ◌≢◌, ℕ, ◌||◌, Option, Some, None, IsTrue}
 use Rattle.vf_tree.specs.Core.{ProgramTree}
 use Rattle.vf_model.specs.Memory.{Memory, Cell, HasCell}
 use Rattle.vf_model.specs.State.{End, State}

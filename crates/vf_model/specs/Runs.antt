@@ -1,5 +1,5 @@
 -- Runs: one event, lists of events, faults, and how a run stands.
-use Rattle.std.specs.Prelude.{◌≡◌, ℕ, Bool, true, false, cond, not, ◌&&◌, ◌==◌, List, [], ◌∷◌, length, slice_get, Option, Some, None, is_none}
+use Rattle.std.specs.Prelude.{◌≡◌, ℕ, ◌<◌, Bool, true, false, IsFalse, cond, not, ◌&&◌, ◌==◌, List, [], ◌∷◌, length, slice_get, Option, Some, None, is_none}
 use Rattle.std.specs.List.{fold, list_any, range_with_len}
 use Rattle.std.specs.FinMap as map
 use Rattle.vf_base.specs.declared.place.Place.{Place}
@@ -8,7 +8,7 @@ use Rattle.vf_model.specs.declared.words.Event.{Event}
 use Rattle.vf_model.specs.declared.words.FaultKind.{FaultKind}
 use Rattle.vf_model.specs.declared.words.Outcome.{Outcome}
 use Rattle.vf_model.specs.declared.words.Outcome.TheVariants as outcomes
-use Rattle.vf_model.specs.Memory.{Memory, granted_block}
+use Rattle.vf_model.specs.Memory.{granted_block}
 use Rattle.vf_model.specs.State.{Thread, End, Returned, Aborted, Faulted, State, entered, ended}
 use Rattle.vf_model.specs.Acts.{Act, Goes, Touches, Allocates, Waits, Faults}
 use Rattle.vf_model.specs.Calls.{has_ended}
@@ -39,6 +39,13 @@ is_wait _ = false
 -- whether a thread can step: the run has not ended, and the thread is known, has not ended and does not wait
 abbrev pub can_step : ProgramTree → State → ℕ → Bool
 can_step p s t = is_none s.end && not (is_wait (next_act p s t))
+
+-- the same in words: the run has not ended, the thread was started, it has not ended, and it is not blocked
+pub record CanStep (p : ProgramTree) (s : State) (t : ℕ) : Type 0 where
+  pub going : s.end ≡ None
+  pub started : t < length s.threads
+  pub unended : IsFalse (has_ended (slice_get s.threads t))
+  pub unblocked : IsFalse (is_wait (next_act p s t))
 
 -- a thread can step and its next step has that fault
 pub record Fault (p : ProgramTree) (s : State) (t : ℕ) (kind : FaultKind) (place : Place) : Type 0 where

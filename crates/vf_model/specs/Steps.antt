@@ -1,11 +1,11 @@
 -- The next step of a thread: what each core step does.
-use Rattle.std.specs.Prelude.{ℕ, Bool, cond, List, [], ◌∷◌, slice_get, Option, Some, None}
+use Rattle.std.specs.Prelude.{ℕ, cond, List, ◌∷◌, slice_get, Option, Some, None}
 use Rattle.vf_base.specs.declared.place.Place.{Place}
 use Rattle.vf_tree.specs.Core.{ExpressionTree, StepTree, Set, Load, Store, Allocate, Free, Offset, LoadAt, StoreAt, AllocateInts, FreeInts, Call, CallPointer, If, Return, FunctionTree, ProgramTree}
 use Rattle.vf_model.specs.declared.words.FaultKind.TheVariants as faults
 use Rattle.vf_model.specs.Values.{Value, number_of, compares}
 use Rattle.vf_model.specs.Memory.{field_cell, element_cell, is_struct_block, is_int_block}
-use Rattle.vf_model.specs.State.{Frame, Thread, State, Turn, goes_on, sets}
+use Rattle.vf_model.specs.State.{Thread, State, Turn, goes_on, sets}
 use Rattle.vf_model.specs.Evaluation.{Evaluated, evaluate, evaluate_all}
 use Rattle.vf_model.specs.Acts.{Act, Goes, Waits, Faults, given}
 use Rattle.vf_model.specs.Accesses.{loads, stores, allocates, allocates_ints, new_struct, frees, offsets}

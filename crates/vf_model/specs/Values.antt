@@ -1,5 +1,5 @@
 -- Values of C and of annotations. C's are numbers, truth values, null, pointers and functions; the others are ghost.
-use Rattle.std.specs.Prelude.{ℕ, ℤ, pos, Bool, true, false, cond, not, ◌&&◌, ◌==◌, nat_eq, List, [], ◌∷◌, int_le, int_lt}
+use Rattle.std.specs.Prelude.{ℕ, ℤ, pos, Bool, true, false, not, ◌&&◌, ◌==◌, nat_eq, int_le, int_lt}
 use Rattle.std.specs.Ordering.{int_eq}
 use Rattle.std.specs.Cmp.Lexicographic.{pointwise}
 use Rattle.vf_base.specs.declared.int_type.IntType.{IntType}
