@@ -8,12 +8,12 @@
 #![tactic(auto)]
 
 mod effect;
-
+mod machine;
 mod program;
 mod sum;
 mod words;
 
-
+pub use machine::Machine;
 pub use program::{Program, assemble_one};
 pub use vf_model::{Event, FaultKind, Outcome};
 pub use words::{Limit, StepFault, Stepped};
