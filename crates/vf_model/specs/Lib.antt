@@ -1,1 +1,13 @@
 pub mod Values
+pub mod Integers
+pub mod PreludeFunctions
+pub mod Memory
+pub mod State
+pub mod Evaluation
+pub mod Acts
+pub mod Accesses
+pub mod Calls
+pub mod Steps
+pub mod Runs
+pub mod Races
+pub mod Laws

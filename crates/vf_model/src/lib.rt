@@ -4,6 +4,11 @@
 //! them, and public functions with an empty body, each of which has a law as its contract.
 #![tactic(auto)]
 
+mod laws;
 mod words;
 
+pub use laws::{
+    ends_for_good, faults_by_any_grant, finds_steppers, grants_least_free, grants_wanted,
+    idles_elsewhere, tells_identities, tells_signatures, tells_steppers,
+};
 pub use words::{Event, FaultKind, Outcome};

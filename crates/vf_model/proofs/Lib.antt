@@ -1,0 +1,4 @@
+pub mod Machine
+pub mod FreeBlocks
+pub mod Equality
+mod Examples
