@@ -1,0 +1,9 @@
+//! The rules of a body, walked once from its first step on: which questions are asked, and the first
+//! that is not proved.
+//!
+//! `check_main` comes to what the written rules (`specs/Main.antt`) come to with just the answers that
+//! its asker gave, whoever the asker is.
+#![tactic(auto)]
+
+pub mod body;
+pub mod sum;
