@@ -1,3 +1,4 @@
+mod Examples
 pub mod DecimalLaws
 pub mod Entries
 pub mod Taken

@@ -11,12 +11,16 @@ use std::alloc::AllocError;
 /// Contracts see what is told of the files, and three counts that never fall: of reads that failed,
 /// of reads of a path that was missing, and of writes that failed.
 pub trait Files {
+    // What is told of the files.
     ghost contents: { Self → Contents };
 
+    // How many reads failed.
     ghost failures: { Self → ℕ };
 
+    // How many reads found no file.
     ghost absences: { Self → ℕ };
 
+    // How many writes failed.
     ghost put_failures: { Self → ℕ };
 
     /// Puts the first `limit + 1` bytes of a file into `into`, or all of them where it is shorter.
@@ -49,14 +53,18 @@ pub trait Files {
 pub enum FileFault {
     /// There is no file at the path.
     Missing,
+    /// The file could not be read.
     Failed,
+    /// There was no memory for its bytes.
     Memory,
 }
 
 /// Why a file was not written.
 #[derive(Clone, Copy, Debug, PartialEq, Eq)]
 pub enum PutFault {
+    /// The file could not be written.
     Failed,
+    /// There was no memory for its bytes.
     Memory,
 }
 

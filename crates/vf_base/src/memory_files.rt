@@ -1,8 +1,8 @@
 //! Files in memory, of which chosen calls fail.
 
-ghost use Rattle.std.specs.Prelude.{◌≡◌, ◌≢◌, ◌↔◌, ◌≤◌, [], Some, None, OnOk, OnErr, IsErrOf, IsTrue, Contains, option_map};
+ghost use Rattle.std.specs.Prelude.{◌≡◌, ◌↔◌, ◌≤◌, [], Some, None, OnOk, OnErr, IsErrOf, IsTrue, Contains, option_map};
 ghost use Rattle.std.specs.FinMap.{empty, get, insert};
-ghost use Rattle.vf_base.specs.Outside.{Rose, next_count, IsFront, IsPartOf, IsAbsent, IsWritten, ChangesAtMost};
+ghost use Rattle.vf_base.specs.Outside.{next_count, IsFront, ChangesAtMost};
 ghost use Rattle.vf_base.specs.InMemory.{after_read, after_put};
 
 use crate::file_table::FileTable;

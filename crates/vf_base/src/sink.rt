@@ -11,8 +11,10 @@ use std::alloc::AllocError;
 /// Contracts see the list of the bytes that it took, where it tells them, and a count of its failures
 /// that never falls.
 pub trait Sink {
+    // The bytes that it took, where it tells them.
     ghost taken: { Self → Option (List ℕ) };
 
+    // How many writes failed, or took nothing of a piece that is not empty.
     ghost failures: { Self → ℕ };
 
     /// Takes bytes of the front of a piece, and says how many.
@@ -28,7 +30,9 @@ pub trait Sink {
 /// Why no byte was taken.
 #[derive(Clone, Copy, Debug, PartialEq, Eq)]
 pub enum SinkFault {
+    /// The bytes could not be written.
     Failed,
+    /// There was no memory for them.
     Memory,
 }
 

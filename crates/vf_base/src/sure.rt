@@ -2,7 +2,7 @@
 
 ghost use Rattle.std.specs.Prelude.{◌≡◌, ◌↔◌, ◌≤◌, ◌++◌, [], Some, None, length, IfOk, OnOk, OnErr, IsErrOf, option_map};
 ghost use Rattle.std.specs.FinMap.{empty, get, insert};
-ghost use Rattle.vf_base.specs.Outside.{next_count, IsFront, ChangesAtMost};
+ghost use Rattle.vf_base.specs.Outside.{IsFront, ChangesAtMost};
 ghost use Rattle.vf_base.specs.InMemory.{after_sure_read};
 
 use crate::file_table::FileTable;
