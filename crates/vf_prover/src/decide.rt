@@ -11,11 +11,8 @@ ghost use Rattle.vf_trail.specs.Trail.{path_of};
 use crate::met::is_met;
 use crate::terms::add_terms;
 use vf_base::Sequence;
-use vf_term::{Answer, AskFault, Literal};
+use vf_term::{Answer, AskFault, Literal, MOST_TERMS};
 use vf_trail::{Node, Trail};
-
-/// The most distinct terms that a question may have.
-pub const MOST_TERMS: usize = 1024;
 
 /// The right answer to the question of the goal under the facts of a node's path.
 pub fn decide(trail: &Trail<Literal>, at: Node, goal: &Literal) -> Result<Answer, AskFault>
