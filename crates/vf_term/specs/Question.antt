@@ -1,9 +1,10 @@
 -- The terms of a question, and their limit.
-use Rattle.std.specs.Prelude.{ℕ, Bool, false, ◌||◌, not, if◌then◌else◌, nat_lt, List, [], ◌∷◌, ◌++◌, length}
+use Rattle.std.specs.Prelude.{Bool, false, ◌||◌, not, if◌then◌else◌, nat_lt, List, [], ◌∷◌, ◌++◌, length}
 use Rattle.std.specs.Ordering.{int_eq}
 use Rattle.std.specs.List.{flat_map}
 use Rattle.vf_term.specs.Term.{TermTree, Number, Truth}
 use Rattle.vf_term.specs.Literals.{terms_of}
+use Rattle.vf_term.specs.declared.asker.TheConstants.{MOST_TERMS}
 use Rattle.vf_term.specs.declared.literal.Literal.{Literal}
 
 -- whether two truth values are one
@@ -34,10 +35,6 @@ distinct (t ∷ ts) = with_term t (distinct ts)
 unfoldable pub question_terms : List Literal → Literal → List TermTree
 question_terms path goal = distinct (flat_map terms_of path ++ terms_of goal)
 
--- the most distinct terms that a question may have
-abbrev pub most_terms : ℕ
-most_terms = 1024
-
 -- whether a question has more terms than it may
 unfoldable pub has_too_many_terms : List Literal → Literal → Bool
-has_too_many_terms path goal = nat_lt most_terms (length (question_terms path goal))
+has_too_many_terms path goal = nat_lt MOST_TERMS (length (question_terms path goal))

@@ -7,10 +7,13 @@ use std::alloc::{AllocError, AllocFailed};
 use vf_base::Memory;
 use vf_trail::{MOST_FACTS, Node, TrailFault};
 
+/// The most distinct terms that a question may have.
+pub const MOST_TERMS: usize = 1024;
+
 /// Why a unit is not begun, a fact not taken or a question not answered.
 #[derive(Clone, Copy, Debug, PartialEq, Eq)]
 pub enum AskFault {
-    /// The question has more than 1,024 distinct terms.
+    /// The question has more than [`MOST_TERMS`] distinct terms.
     Terms,
     /// The trail is full.
     Full,

@@ -16,7 +16,7 @@ mod term;
 
 pub use answers::Answer;
 pub use ask::{holds, note};
-pub use asker::{AskFault, Asker};
+pub use asker::{AskFault, Asker, MOST_TERMS};
 pub use journal::{Definitions, DefinitionsList, Entry, EntryList, Journal};
 pub use laws::{
     courses_are_determined, courses_only_append, refutations_are_sound,

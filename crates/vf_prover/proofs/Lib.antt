@@ -1,0 +1,4 @@
+pub mod Counted
+pub mod Refuted
+pub mod Walk
+pub mod Staying
