@@ -1,5 +1,5 @@
 -- Faults of sums, from left to right.
-use Rattle.std.proofs.Common.{◌≡◌, ℕ, zero, suc, ◌+◌, ◌<◌, Bool, true, false, List, [], ◌∷◌, length, take, Option, Some, None, ℤ, pos, negsuc, ◌+ℤ◌, ◌-ℤ◌, FitsSigned, get_or, refl, sym, arith}
+use Rattle.std.proofs.Common.{◌≡◌, ℕ, zero, suc, ◌<◌, List, [], ◌∷◌, length, take, Option, ℤ, get_or, refl, sym, arith}
 use Rattle.std.specs.List.{fold}
 use Rattle.vf_base.specs.declared.place.Place.{Place}
 use Rattle.vf_base.specs.declared.int_type.IntType.TheVariants as types
@@ -7,7 +7,6 @@ use Rattle.vf_tree.specs.Core.{ExpressionTree}
 use Rattle.vf_tree.specs.Shown.{operand_of, operator_of, linked}
 use Rattle.vf_tree.specs.declared.unit.Link.{Link}
 use Rattle.vf_model.specs.declared.words.FaultKind.{FaultKind}
-use Rattle.vf_model.specs.declared.words.FaultKind.TheVariants as faults
 use Rattle.vf_model.specs.Values.{Value, Number, number_of}
 use Rattle.vf_model.specs.Evaluation.{Evaluated, Gives, Fails, and_then, computed, evaluate}
 

@@ -1,5 +1,5 @@
 -- What the machine's fields say of the next step of thread 0 and of the others.
-use Rattle.std.proofs.Common.{◌≡◌, ℕ, zero, suc, ◌≤◌, List, [], ◌∷◌, map, length, replicate, set, Option, Some, None, slice_get, ℤ, refl, sym, ap, ◌∙◌, arith}
+use Rattle.std.proofs.Common.{◌≡◌, ℕ, zero, suc, List, [], ◌∷◌, map, length, replicate, Option, Some, None, slice_get, ℤ, refl, sym, ap, ◌∙◌}
 use Rattle.std.specs.Option.{option_map}
 use Rattle.std.proofs.Math.Nat.{sub-zero}
 use Rattle.std.proofs.lemmas.Option.{slice_get-map}
@@ -8,13 +8,13 @@ use Rattle.vf_base.specs.declared.int_type.IntType.TheVariants as types
 use Rattle.vf_tree.specs.Core.{Integer, ProgramTree}
 use Rattle.vf_tree.specs.Shown.{function_of, step_of}
 use Rattle.vf_tree.specs.declared.unit.Function.{Function}
-use Rattle.vf_model.specs.Values.{Number}
 use Rattle.vf_model.specs.State.{Turn, locals_of}
-use Rattle.vf_model.specs.Acts.{Act, Waits}
+use Rattle.vf_model.specs.Acts.{Waits}
 use Rattle.vf_model.specs.Steps.{act_at, act_in, next_act}
 use Rattle.vf_model.specs.Steps as steps
 use Rattle.vf_model.specs.Runs.{happens, main_frames}
-use Rattle.vf_machine.specs.Machine.{values_of, frames_of, machine_program, machine_state, turn_of, act_of_effect, act_with, act_by, state_with, effect_state}
+use Rattle.vf_machine.specs.Machine.{values_of, frames_of, machine_program, machine_state}
+use Rattle.vf_machine.specs.Effects.{turn_of, act_of_effect, act_with, act_by, state_with, effect_state}
 use Rattle.vf_machine.specs.declared.machine.Frame.{Frame}
 use Rattle.vf_machine.specs.declared.machine.Machine.{Machine}
 use Rattle.vf_machine.specs.declared.effect.Effect.{Effect}
@@ -24,16 +24,16 @@ use Rattle.vf_machine.specs.declared.effect.Effect.TheVariants as effects
 pub next_is : (m : Machine) (frame : Frame) (f : Function) (effect : Effect)
     → m.frame ≡ Some frame → slice_get m.program.plain.functions m.program.plain.main ≡ Some f
     → ((p : ProgramTree) (turn : Turn) → turn.frame.locals ≡ values_of frame.locals.items
-        → act_at p turn f.closing (option_map step_of (slice_get f.steps frame.step)) ≡ act_of_effect turn effect)
+    → act_at p turn f.closing (option_map step_of (slice_get f.steps frame.step)) ≡ act_of_effect turn effect)
     → next_act (machine_program m) (machine_state m) 0 ≡ act_by m (Some effect)
 next_is m frame f effect e1 e2 h =
     let p = machine_program m in
     let turn = turn_of m frame in
     ap (λ (o : Option Frame). steps.act_by p (machine_state m) 0 (Some (frames_of m.program.plain.main o))) e1
-      ∙ ap (act_in p turn) (slice_get-map function_of m.program.plain.functions m.program.plain.main ∙ ap (option_map function_of) e2)
-      ∙ ap (act_at p turn f.closing) (slice_get-map step_of f.steps frame.step)
-      ∙ h p turn refl
-      ∙ sym (ap (λ (o : Option Frame). act_with m o (Some effect)) e1)
+    ∙ ap (act_in p turn) (slice_get-map function_of m.program.plain.functions m.program.plain.main ∙ ap (option_map function_of) e2)
+    ∙ ap (act_at p turn f.closing) (slice_get-map step_of f.steps frame.step)
+    ∙ h p turn refl
+    ∙ sym (ap (λ (o : Option Frame). act_with m o (Some effect)) e1)
 
 -- no other thread was ever started
 pub others_wait : (m : Machine) (t : ℕ) → (t ≡ 0 → ⊥) → next_act (machine_program m) (machine_state m) t ≡ Waits

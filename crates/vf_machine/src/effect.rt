@@ -6,7 +6,8 @@ ghost use Rattle.vf_tree.specs.Core.{ProgramTree};
 ghost use Rattle.vf_tree.specs.Shown.{step_of};
 ghost use Rattle.vf_model.specs.State.{Turn};
 ghost use Rattle.vf_model.specs.Steps.{act_at};
-ghost use Rattle.vf_machine.specs.Machine.{values_of, act_of_effect};
+ghost use Rattle.vf_machine.specs.Machine.{values_of};
+ghost use Rattle.vf_machine.specs.Effects.{act_of_effect};
 
 use crate::sum::{Trouble, sum_value};
 use vf_model::FaultKind;

@@ -4,7 +4,8 @@ ghost use Rattle.std.specs.Prelude.{◌≡◌, ◌↔◌, IfOk, IsOk, OnOk, OnEr
 ghost use Rattle.vf_model.specs.Values.{Number};
 ghost use Rattle.vf_model.specs.Steps.{next_act};
 ghost use Rattle.vf_model.specs.Runs.{after, can_step, CanStep, main_frames, opening, outcome_of};
-ghost use Rattle.vf_machine.specs.Machine.{tree_of, values_of, frames_of, machine_program, machine_state, act_by, effect_state};
+ghost use Rattle.vf_machine.specs.Machine.{tree_of, values_of, frames_of, machine_program, machine_state};
+ghost use Rattle.vf_machine.specs.Effects.{act_by, effect_state};
 
 use crate::effect::{Effect, effect_of};
 use crate::program::Program;
@@ -55,7 +56,10 @@ fn with_local(frame: Frame, local: u32, value: i128, next: u32) -> Frame
     ensures step { result.step ≡ next }
     ensures locals { values_of result.locals.items ≡ slice_set (values_of frame.locals.items) local (Some (Number value)) }
 {
-    let Frame { step: _, mut locals } = frame;
+    let Frame {
+        step: _,
+        mut locals,
+    } = frame;
     let local = local as usize;
     if local < locals.len() {
         locals[local] = Some(value);

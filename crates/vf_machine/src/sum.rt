@@ -6,7 +6,8 @@ ghost use Rattle.vf_tree.specs.Shown.{operand_of, operator_of, expression_of};
 ghost use Rattle.vf_model.specs.Integers.{in_range};
 ghost use Rattle.vf_model.specs.Values.{number_of};
 ghost use Rattle.vf_model.specs.Evaluation.{evaluate, and_then, computed};
-ghost use Rattle.vf_machine.specs.Machine.{values_of, evaluated, int_or_fault};
+ghost use Rattle.vf_machine.specs.Machine.{values_of};
+ghost use Rattle.vf_machine.specs.Effects.{evaluated, int_or_fault};
 
 use vf_base::Place;
 use vf_model::FaultKind;
@@ -56,11 +57,7 @@ fn int_at(number: Option<i128>, place: Place) -> Result<i128, Trouble>
 }
 
 /// The value of a sum with one more operand on its right.
-fn linked_value(
-    left: i128,
-    link: &Link,
-    locals: &[Option<i128>],
-) -> Result<i128, Trouble>
+fn linked_value(left: i128, link: &Link, locals: &[Option<i128>]) -> Result<i128, Trouble>
     ensures { evaluated result ≡ and_then (evaluate (values_of locals.now) (operand_of link.now.operand))
         (λ right. computed (operator_of link.now.operator) types.Int link.now.place left (number_of right)) }
 {

@@ -1,17 +1,21 @@
 -- The laws of one event, of who can step and of faults.
 use Rattle.std.proofs.Common.{◌≡◌, ℕ, zero, suc, ◌+◌, ◌<◌, ◌≤◌, Bool, true, false, not, ◌&&◌, List, [], ◌∷◌, length, Option, Some, None, slice_get, is_none, is_some, refl, ap, subst, ◌∙◌, ◌⊎◌, inl, inr, ⊎_elim, arith}
-use Rattle.std.specs.List.{list_any, range_with_len}
+use Rattle.std.specs.List.{fold, list_any, range_with_len}
 use Rattle.std.proofs.lemmas.Bool.{true≢false, false≢true, not-true, not-false, not_from_false, and_parts, and_from, or_cases, or_left, or_right, cases_lt}
 use Rattle.vf_tree.specs.Core.{ProgramTree}
 use Rattle.vf_model.specs.State.{Thread, State}
 use Rattle.vf_model.specs.Acts.{Act, Goes, Touches, Allocates, Waits, Faults}
 use Rattle.vf_model.specs.Calls.{has_ended}
 use Rattle.vf_model.specs.Steps.{act_by, next_act}
-use Rattle.vf_model.specs.Runs.{happens, after_unended, is_wait, can_step, CanStep}
-use Rattle.vf_model.specs.Laws.{EndsForGood, TellsSteppers, IdlesElsewhere, FindsSteppers, FaultsByAnyGrant}
+use Rattle.vf_model.specs.Runs.{after, happens, after_unended, is_wait, can_step, CanStep}
+use Rattle.vf_model.specs.Laws.{EndsForGood, StaysEnded, TellsSteppers, IdlesElsewhere, FindsSteppers, FaultsByAnyGrant}
 
 pub end_stays : EndsForGood
 end_stays p s e end h = ap (after_unended p s e) h
+
+pub no_event_changes : StaysEnded
+no_event_changes p s end [] h = refl
+no_event_changes p s end (e ∷ events) h = ap (λ new. fold (after p) new events) (end_stays p s e end h) ∙ no_event_changes p s end events h
 
 -- an act that waits changes nothing
 wait_stays : (s : State) (grant : ℕ) (a : Act) → is_wait a ≡ true → happens s grant a ≡ s

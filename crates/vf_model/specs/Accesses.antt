@@ -1,11 +1,10 @@
 -- Steps that read, write, allocate and free cells.
-use Rattle.std.specs.Prelude.{ℕ, Bool, true, false, cond, Option, Some, None, ℤ, pos, ◌+ℤ◌, int_lt, unsigned_abs}
+use Rattle.std.specs.Prelude.{ℕ, Bool, true, false, cond, Option, Some, None, ℤ, pos, ◌+ℤ◌, int_lt, unsigned_abs, length}
 use Rattle.std.specs.FinMap as map
 use Rattle.std.specs.Ordering.{int_eq}
 use Rattle.std.specs.List.{find}
 use Rattle.vf_base.specs.declared.place.Place.{Place}
 use Rattle.vf_tree.specs.Core.{Identity, StructTree, ProgramTree}
-use Rattle.std.specs.Prelude.{length}
 use Rattle.vf_model.specs.declared.words.FaultKind.TheVariants as faults
 use Rattle.vf_model.specs.Values.{Value, same_identity}
 use Rattle.vf_model.specs.Values as values
@@ -13,6 +12,7 @@ use Rattle.vf_model.specs.Memory.{Block, Struct, Ints, Cell, block_at, pointed_a
 use Rattle.vf_model.specs.State.{Turn, goes_on, sets, over_memory}
 use Rattle.vf_model.specs.Acts.{Touch, Act, Goes, Touches, Allocates, Faults}
 
+-- the touch of one cell
 abbrev pub touch_of : Cell → Bool → Place → Touch
 touch_of c writes place = record { block = c.block; cell = Some c.index; writes = writes; place = place }
 
@@ -36,11 +36,12 @@ abbrev pub allocates : Turn → ℕ → Block → ℕ → Act
 allocates turn x block next =
     Allocates (sets turn x values.Null next) (λ b. sets (over_memory turn (map.insert turn.state.memory b block)) x (values.Pointer b (pos 0)) next)
 
--- how many fields a struct of the program has, and 0 for no struct of it
+-- how many fields a struct has, and 0 for none
 abbrev pub field_count_in : Option StructTree → ℕ
 field_count_in None = 0
 field_count_in (Some s) = length s.fields
 
+-- how many fields the struct of an identity has in the program, which has each struct that is allocated
 abbrev pub field_count : ProgramTree → Identity → ℕ
 field_count p g = field_count_in (find (λ s. same_identity s.identity g) p.structs)
 
@@ -63,11 +64,12 @@ abbrev pub frees : Turn → Value → Place → ℕ → (Option Block → Bool) 
 frees turn values.Null place next test = Goes (goes_on turn next)
 frees turn p place next test = frees_block turn p place next (test (pointed_at turn.state.memory p))
 
--- the pointer's offset is greater by i: fault access where that is no place in an array
+-- a pointer to a place in a block, where the test says that it is one: else fault access
 abbrev pub offset_within : Turn → ℕ → ℕ → ℤ → Place → ℕ → Bool → Act
 offset_within turn x b o place next true = Goes (sets turn x (values.Pointer b o) next)
 offset_within turn x b o place next false = Faults faults.Access place
 
+-- a pointer whose offset is greater by i, which must be that of a cell of an array or the one past its last (C11 6.5.6p8)
 abbrev pub offset_from : Turn → ℕ → Value → ℤ → Place → ℕ → Act
 offset_from turn x (values.Pointer b o) i place next = offset_within turn x b (o +ℤ i) place next (is_place_in (o +ℤ i) (block_at turn.state.memory b))
 offset_from turn x _ i place next = Faults faults.Access place

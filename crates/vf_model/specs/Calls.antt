@@ -13,11 +13,12 @@ use Rattle.vf_model.specs.Memory.{Block, Mutex, Handle, pointed_at, block_number
 use Rattle.vf_model.specs.State.{Frame, Thread, State, Returned, Aborted, Turn, entered, function_named, at_step, with_result, with_frames, goes_on, receives, over_memory, after_output, after_start, ended}
 use Rattle.vf_model.specs.Acts.{Act, Goes, Allocates, Waits, Faults}
 
--- an argument by its index; a call has as many as its function has parameters
+-- an argument, and null where there is none
 abbrev pub argument_of : Option Value → Value
 argument_of None = values.Null
 argument_of (Some v) = v
 
+-- an argument by its index; a call has as many as its function has parameters
 abbrev pub argument : List Value → ℕ → Value
 argument vs i = argument_of (slice_get vs i)
 
@@ -58,6 +59,7 @@ abbrev pub with_signature : Signature → ℕ → Option FunctionTree → Option
 with_signature want number None = None
 with_signature want number (Some f) = cond (same_signature f.signature want) (Some (number, f)) None
 
+-- the same for a number that may be none
 abbrev pub numbered : ProgramTree → Signature → Option ℕ → Option (ℕ × FunctionTree)
 numbered p want None = None
 numbered p want (Some number) = with_signature want number (slice_get p.functions number)
@@ -102,28 +104,31 @@ calls_prelude p turn target vs place next MutexDispose = disposes turn (argument
 abbrev pub enters : Turn → ℕ → FunctionTree → Option ℕ → List Value → ℕ → State
 enters turn number f target vs next = with_frames turn (entered number f vs target ∷ at_step turn.frame next ∷ turn.callers)
 
--- a call of a function with a body; in a linked program each function that is called has one, or is the prelude's
+-- a call of a function with a body, and fault pointer where there is none
 abbrev pub calls_body : Turn → Option ℕ → List Value → Place → ℕ → ℕ → Option FunctionTree → Act
 calls_body turn target vs place next number None = Faults faults.Pointer place
 calls_body turn target vs place next number (Some f) = Goes (enters turn number f target vs next)
 
+-- the same by its number. In a linked program each function that is called has a body, or is the prelude's
 abbrev pub calls_number : ProgramTree → Turn → Option ℕ → List Value → Place → ℕ → Option ℕ → Act
 calls_number p turn target vs place next None = Faults faults.Pointer place
 calls_number p turn target vs place next (Some number) = calls_body turn target vs place next number (slice_get p.functions number)
 
--- a call of the function of an identity: the prelude's in one step, and any other by a frame
+-- a call of a function that is known as the prelude's, or is not
 abbrev pub calls_named : ProgramTree → Turn → Option ℕ → Identity → List Value → Place → ℕ → Option PreludeFunction → Act
 calls_named p turn target g vs place next (Some f) = calls_prelude p turn target vs place next f
 calls_named p turn target g vs place next None = calls_number p turn target vs place next (function_named p g)
 
+-- a call of the function of an identity: the prelude's in one step, and any other by a frame
 abbrev pub calls : ProgramTree → Turn → Option ℕ → Identity → List Value → Place → ℕ → Act
 calls p turn target g vs place next = calls_named p turn target g vs place next (prelude_named g)
 
--- whether a function of that identity, the prelude's or with a body, has the signature
+-- whether a function with the signature was found
 abbrev pub body_has_signature : Option (ℕ × FunctionTree) → Bool
 body_has_signature None = false
 body_has_signature (Some f) = true
 
+-- whether a function of that identity, the prelude's or with a body, has the signature
 abbrev pub has_signature : ProgramTree → Identity → Signature → Option PreludeFunction → Bool
 has_signature p g want (Some f) = same_signature (signature_of f) want
 has_signature p g want None = body_has_signature (numbered p want (function_named p g))
@@ -134,7 +139,7 @@ calls_pointer p turn target (values.Function g) want vs place next =
     cond (has_signature p g want (prelude_named g)) (calls p turn target g vs place next) (Faults faults.Pointer place)
 calls_pointer p turn target _ want vs place next = Faults faults.Pointer place
 
--- the number that main returns
+-- the number that main returns, which is an int
 abbrev pub returned_number : Option Value → ℤ
 returned_number None = pos 0
 returned_number (Some v) = number_of v
@@ -150,5 +155,6 @@ abbrev pub returns_to : Turn → Option Value → List Frame → State
 returns_to turn value [] = ends_thread turn value
 returns_to turn value (caller ∷ callers) = with_frames turn (with_result caller turn.frame.target value ∷ callers)
 
+-- the state after a return
 abbrev pub returns : Turn → Option Value → State
 returns turn value = returns_to turn value turn.callers

@@ -1,5 +1,6 @@
 -- Laws of the machine. Each is the contract of a public function with an empty body.
-use Rattle.std.specs.Prelude.{◌≡◌, ℕ, Some, IsTrue, IsFalse, ◌↔◌}
+use Rattle.std.specs.Prelude.{◌≡◌, ℕ, Some, IsTrue, IsFalse, ◌↔◌, List}
+use Rattle.std.specs.List.{fold}
 use Rattle.std.specs.FinMap as map
 use Rattle.vf_base.specs.declared.place.Place.{Place}
 use Rattle.vf_tree.specs.Core.{Identity, ProgramTree, Signature}
@@ -13,6 +14,10 @@ use Rattle.vf_model.specs.Runs.{after, can_step, CanStep, some_can_step, Fault}
 -- an event after the end of the run changes nothing
 abbrev pub EndsForGood : Type 0
 EndsForGood = (p : ProgramTree) (s : State) (e : Event) (end : End) → s.end ≡ Some end → after p s e ≡ s
+
+-- so no events do
+abbrev pub StaysEnded : Type 0
+StaysEnded = (p : ProgramTree) (s : State) (end : End) (events : List Event) → s.end ≡ Some end → fold (after p) s events ≡ s
 
 -- the test whether a thread can step says just that
 abbrev pub TellsSteppers : Type 0
@@ -40,9 +45,10 @@ GrantsWanted = (m : Memory) (wanted : ℕ) → IsFalse (map.contains_key m wante
 abbrev pub GrantsLeastFree : Type 0
 GrantsLeastFree = (m : Memory) (wanted : ℕ) → IsTrue (map.contains_key m wanted) → IsLeastFree m (granted_block m wanted)
 
--- the tests on identities and signatures say just that two are equal
+-- the test on identities says just that two are equal
 abbrev pub TellsIdentities : Type 0
 TellsIdentities = (g h : Identity) → IsTrue (same_identity g h) ↔ (g ≡ h)
 
+-- the test on signatures says just that two are equal
 abbrev pub TellsSignatures : Type 0
 TellsSignatures = (s r : Signature) → IsTrue (same_signature s r) ↔ (s ≡ r)

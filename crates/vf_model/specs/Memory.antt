@@ -67,11 +67,12 @@ HasCell m c = c.index < length (cells_at (block_at m c.block))
 abbrev pub content : Memory → Cell → Option (Option Value)
 content m c = slice_get (cells_at (block_at m c.block)) c.index
 
--- the memory with a value in a cell
+-- the memory with a value in a cell of the block that it has there
 abbrev pub written_in : Memory → Cell → Value → Option Block → Memory
 written_in m c v None = m
 written_in m c v (Some block) = map.insert m c.block (with_cells block (slice_set (cells_of block) c.index (Some v)))
 
+-- the memory with a value in a cell; without that cell it stays as it is
 abbrev pub written : Memory → Cell → Value → Memory
 written m c v = written_in m c v (block_at m c.block)
 

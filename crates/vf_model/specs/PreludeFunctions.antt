@@ -6,6 +6,7 @@ use Rattle.vf_base.specs.declared.int_type.IntType.TheVariants as types
 use Rattle.vf_tree.specs.Core.{Identity, TypeTree, Void, Integer, PointerToVoid, PointerToStruct, Signature}
 use Rattle.vf_model.specs.Values.{same_identity}
 
+-- each of them
 pub data PreludeFunction : Type 0 where
   Abort PutChar PrintInt ThreadStart ThreadStartJoinable ThreadJoin CreateMutex MutexAcquire MutexRelease MutexDispose : PreludeFunction
 
@@ -22,7 +23,7 @@ identity_of MutexAcquire = codes "<threading.h>#mutex_acquire"
 identity_of MutexRelease = codes "<threading.h>#mutex_release"
 identity_of MutexDispose = codes "<threading.h>#mutex_dispose"
 
--- all of them
+-- all of them in a list
 abbrev pub prelude_functions : List PreludeFunction
 prelude_functions =
     Abort ∷ PutChar ∷ PrintInt ∷ ThreadStart ∷ ThreadStartJoinable ∷ ThreadJoin ∷ CreateMutex ∷ MutexAcquire ∷ MutexRelease ∷ MutexDispose ∷ []
@@ -39,6 +40,7 @@ pointer_to_mutex = PointerToStruct (codes "<threading.h>#mutex")
 abbrev pub pointer_to_thread : TypeTree
 pointer_to_thread = PointerToStruct (codes "<threading.h>#thread")
 
+-- a signature by its parts
 abbrev pub taking : TypeTree → List TypeTree → Signature
 taking result parameters = record { result = result; parameters = parameters }
 

@@ -11,6 +11,7 @@ abbrev pub touch_in : Act → Option Touch
 touch_in (Touches touch new) = Some touch
 touch_in _ = None
 
+-- no step is taken after the end of a run
 abbrev pub touch_unended : ProgramTree → State → ℕ → Option End → Option Touch
 touch_unended p s t (Some end) = None
 touch_unended p s t None = touch_in (next_act p s t)

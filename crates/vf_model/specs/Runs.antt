@@ -79,6 +79,7 @@ abbrev pub standing : Bool → Outcome
 standing true = outcomes.Running
 standing false = outcomes.Blocked
 
+-- how a run stands, by how it has ended
 abbrev pub outcome_by : ProgramTree → State → Option End → Outcome
 outcome_by p s (Some (Returned z)) = outcomes.Returned z
 outcome_by p s (Some Aborted) = outcomes.Aborted

@@ -15,6 +15,7 @@ use Rattle.vf_model.specs.Calls.{calls, calls_pointer, returns}
 abbrev pub value : Turn → ExpressionTree → Evaluated Value
 value turn e = evaluate turn.frame.locals e
 
+-- several in order
 abbrev pub all_values : Turn → List ExpressionTree → Evaluated (List Value)
 all_values turn es = evaluate_all turn.frame.locals es
 

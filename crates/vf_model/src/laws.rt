@@ -1,10 +1,15 @@
 //! Laws of the machine. Each function does nothing; its contract is the law.
 
-ghost use Rattle.vf_model.specs.Laws.{EndsForGood, TellsSteppers, IdlesElsewhere, FindsSteppers, FaultsByAnyGrant, GrantsWanted, GrantsLeastFree, TellsIdentities, TellsSignatures};
+ghost use Rattle.vf_model.specs.Laws.{EndsForGood, StaysEnded, TellsSteppers, IdlesElsewhere, FindsSteppers, FaultsByAnyGrant, GrantsWanted, GrantsLeastFree, TellsIdentities, TellsSignatures};
 
 /// An event after the end of the run changes nothing.
 pub fn ends_for_good()
     ensures { EndsForGood }
+{}
+
+/// No list of events changes a state in which the run has ended.
+pub fn stays_ended()
+    ensures { StaysEnded }
 {}
 
 /// The test whether a thread can step says that the run has not ended, and that the thread was

@@ -9,6 +9,6 @@ mod words;
 
 pub use laws::{
     ends_for_good, faults_by_any_grant, finds_steppers, grants_least_free, grants_wanted,
-    idles_elsewhere, tells_identities, tells_signatures, tells_steppers,
+    idles_elsewhere, stays_ended, tells_identities, tells_signatures, tells_steppers,
 };
 pub use words::{Event, FaultKind, Outcome};

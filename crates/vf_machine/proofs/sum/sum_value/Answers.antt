@@ -1,4 +1,4 @@
-use Rattle.std.proofs.Common.{◌≡◌, sym, refl}
+use Rattle.std.proofs.Common.{sym}
 use Rattle.std.proofs.lemmas.Result.{err_from_is_err_and}
 use Rattle.vf_machine.proofs.Sums.{sum_fails, sum_stops}
 use Rattle.vf_machine.proofs.sum.sum_value.Goals as goal
