@@ -3,3 +3,4 @@ pub mod Following
 pub mod Determined
 pub mod Sound
 pub mod Kept
+pub mod Example

@@ -124,3 +124,27 @@ impl Journal {
         Ok(())
     }
 }
+
+#[cfg(test)]
+mod tests {
+    use super::*;
+    use std::test::Fail;
+
+    #[tactic(auto, using(crate::proofs::Seeing::pushed_node), unfolding(crate::specs::Journal::HasNode))]
+    #[test]
+    fn journals_grow(rt: HostRuntime) -> Result<(), Fail> {
+        let mut journal = Journal::new(rt.alloc());
+        journal.begin(&Definitions::new())?;
+        let node = journal.push(Node::ROOT, &Literal::at_most(3, 4))?;
+        assert_eq!(rt; node.number, 1);
+        journal.keep(node, &Literal::False, Answer::Unknown)?;
+        assert_eq!(rt; journal.trail.len(), 1);
+        assert_eq!(rt; journal.units.len(), 1);
+        assert_eq!(rt; journal.entries.len(), 1);
+        let entry = &journal.entries.as_slice()[0];
+        assert_eq!(rt; entry.unit, 0);
+        assert_eq!(rt; entry.at.number, 1);
+        assert!(rt; matches!(entry.goal, Literal::False) && entry.answer == Answer::Unknown);
+        Ok(())
+    }
+}

@@ -68,3 +68,32 @@ impl Literal {
         }
     }
 }
+
+#[cfg(test)]
+mod tests {
+    use super::*;
+    use std::test::Fail;
+
+    #[test]
+    fn comparisons_of_numbers_are_normal(rt: HostRuntime) -> Result<(), Fail> {
+        for (a, b, constant) in [
+            (-2147483648, 7, 2147483655),
+            (7, 2147483647, 2147483640),
+            (8, 7, -1),
+        ] {
+            let bound = Literal::at_most(a, b).copy()?;
+            assert!(rt;
+                matches!(&bound, Literal::AtMost(p, n, c) if p.as_number() == Some(0) && n.as_number() == Some(0) && *c == constant)
+            );
+            let equal = Literal::equal(a, b).copy()?;
+            assert!(rt;
+                matches!(&equal, Literal::Difference(p, n, c) if p.as_number() == Some(0) && n.as_number() == Some(0) && *c == constant)
+            );
+        }
+        let truth = Literal::truth(false).copy()?;
+        assert!(rt;
+            matches!(&truth, Literal::Equal(a, b) if a.as_truth() == Some(false) && b.as_truth() == Some(true) && !a.same(b))
+        );
+        Ok(())
+    }
+}
