@@ -5,5 +5,7 @@
 //! its asker gave, whoever the asker is.
 #![tactic(auto)]
 
-pub mod body;
-pub mod sum;
+mod body;
+mod sum;
+
+pub use body::check_main;

@@ -7,5 +7,5 @@
 mod unit;
 
 pub use unit::{
-    Contract, Core, CoreStep, Expression, Function, Link, Operand, Operator, Plain, Pure,
+    Contract, Core, CoreStep, Expression, Function, Link, Operand, Operator, Plain, Pure, erase,
 };
