@@ -71,3 +71,6 @@ impl Asker for Prover {
         Ok(answer)
     }
 }
+
+#[cfg(test)]
+mod tests;
