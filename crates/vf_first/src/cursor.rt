@@ -1,6 +1,6 @@
 //! What is left of a text.
 
-ghost use Rattle.std.specs.Prelude.{◌≡◌, ◌≤◌, length};
+ghost use Rattle.std.specs.Prelude.{◌≡◌, ◌<◌, ◌≤◌, ◌^◌, length};
 ghost use Rattle.std.specs.List.{list_all};
 ghost use Rattle.vf_first.specs.Lexemes.{spot, is_blank};
 ghost use Rattle.vf_first.specs.Reading.{Gives, lexeme_of, next_at, word_at, keyword_at, number_at, sign_at, first_sign_at};
@@ -45,8 +45,10 @@ impl<'a> Cursor<'a> {
         }
     }
 
+    /// How many bytes are left.
     pub fn len(&self) -> usize
-        ensures { result ≡ length self.now.text }
+        ensures len { result ≡ length self.now.text }
+        ensures small { result < 2 ^ 32 }
     {
         self.left.len()
     }

@@ -11,3 +11,5 @@ mod names;
 mod read;
 mod stop;
 mod token;
+
+pub use read::{one_reading, read_first};
