@@ -1,0 +1,5 @@
+pub mod Answering
+pub mod Asked
+pub mod Judgements
+pub mod Loading
+pub mod Telling

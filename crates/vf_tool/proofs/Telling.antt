@@ -1,0 +1,63 @@
+-- What the top call tells: one run in the words, one verdict by right answers.
+use Rattle.std.proofs.Common.{◌≡◌, ◌⊎◌, inl, inr, ◌∙◌, refl, sym, ap, subst, ℕ, List, [], ◌∷◌, length, Bool, true, false, Option, Some, None, IfSome, Result, Ok, Err, arith}
+use Rattle.std.specs.Prelude.{codes}
+use Rattle.std.specs.FinMap.{get}
+use Rattle.vf_base.specs.Outside.{Contents, FileMap}
+use Rattle.vf_base.specs.declared.refusal.Refusal.{Refusal}
+use Rattle.vf_tree.specs.declared.unit.Core.{Core}
+use Rattle.vf_model.specs.declared.words.Event.{Event}
+use Rattle.vf_term.specs.Course.{Course, Follows}
+use Rattle.vf_term.specs.Journal.{Seen, nothing_seen, begun}
+use Rattle.vf_term.specs.Right.{AreRightFrom}
+use Rattle.vf_term.proofs.Determined.{right_determined}
+use Rattle.vf_first.proofs.Units.{same_core}
+use Rattle.vf_exec.specs.Main.{checks}
+use Rattle.vf_tool.specs.declared.verdict.Verdict.{Verdict}
+use Rattle.vf_tool.specs.declared.verdict.Verdict.TheVariants.{Accepted, Refused}
+use Rattle.vf_tool.specs.declared.status.Status.TheVariants as statuses
+use Rattle.vf_tool.specs.declared.status.Stop.{Stop}
+use Rattle.vf_tool.specs.declared.status.Stop.TheVariants as stops
+use Rattle.vf_tool.specs.Status.{status_of_stop}
+use Rattle.vf_tool.specs.Verdict.{Judged}
+use Rattle.vf_tool.specs.Words.{IsRun}
+use Rattle.vf_tool.specs.Loaded.{IsSchedule, HasSchedule, HasNoSchedule}
+use Rattle.vf_tool.specs.Run.{IsAnswer, Decides, is_accepted, status_of}
+
+-- words are a run of one schedule and one file
+pub one_schedule : (words : List (List ℕ)) (s f s2 f2 : List ℕ) → IsRun words s f → IsRun words s2 f2 → s ≡ s2
+one_schedule words s f s2 f2 p q = let both : codes "run" ∷ s ∷ f ∷ [] ≡ codes "run" ∷ s2 ∷ f2 ∷ [] = sym p.words_are ∙ q.words_are in cc
+
+pub one_file : (words : List (List ℕ)) (s f s2 f2 : List ℕ) → IsRun words s f → IsRun words s2 f2 → f ≡ f2
+one_file words s f s2 f2 p q = let both : codes "run" ∷ s ∷ f ∷ [] ≡ codes "run" ∷ s2 ∷ f2 ∷ [] = sym p.words_are ∙ q.words_are in cc
+
+-- an acceptance and a refusal do not both follow by right answers
+both_ways : (core core2 : Core) (refusal : Refusal) (t u : Seen) → core ≡ core2 → Follows (checks core) (begun nothing_seen) t (Ok tt) → Follows (checks core2) (begun nothing_seen) u (Err refusal) → AreRightFrom 0 t → AreRightFrom 0 u → ⊥
+both_ways core core2 refusal t u same p q right right2 =
+    let one = right_determined (checks core2) 0 (begun nothing_seen) t u (Ok tt) (Err refusal) (omega arith) (subst (λ (c : Core). Follows (checks c) (begun nothing_seen) t (Ok tt)) same p) q right right2 in
+    let differ : Ok tt ≡ Err refusal = one.0 in cc
+
+-- one verdict by right answers
+pub one_verdict : (file source : List ℕ) (t u : Seen) (v w : Verdict) → AreRightFrom 0 t → AreRightFrom 0 u → Judged file source nothing_seen t v → Judged file source nothing_seen u w → is_accepted v ≡ is_accepted w
+one_verdict file source t u (Accepted core) (Accepted core2) r q a b = refl
+one_verdict file source t u (Refused x) (Refused y) r q a b = refl
+one_verdict file source t u (Accepted core) (Refused y) r q a (inl b) = absurd (both_ways core b.core y t u (same_core file 0 source core b.core a.spelled b.spelled) a.follows b.follows r q)
+one_verdict file source t u (Accepted core) (Refused y) r q a (inr b) = absurd (b.unspelled core a.spelled)
+one_verdict file source t u (Refused x) (Accepted core) r q (inl a) b = absurd (both_ways core a.core x u t (same_core file 0 source core a.core b.spelled a.spelled) b.follows a.follows q r)
+one_verdict file source t u (Refused x) (Accepted core) r q (inr a) b = absurd (a.unspelled core b.spelled)
+
+-- a told answer decides
+pub decides : (contents : Contents) (m : FileMap) (s f schedule file : List ℕ) (t : Seen) (accepted : Bool) (text : List ℕ) → contents ≡ Some m → f ≡ file → AreRightFrom 0 t → IfSome contents (λ n. IsAnswer n s f t accepted text) → Decides m file (status_of accepted)
+decides contents m s f schedule file t accepted text is same right h =
+    let a : IsAnswer m s f t accepted text = subst (λ (c : Contents). IfSome c (λ n. IsAnswer n s f t accepted text)) is h in
+    inr (a.source, ap (λ (x : List ℕ). get m x) (sym same) ∙ a.there, λ u w r j. ap status_of (a.answers.accepted_is ∙ one_verdict f a.source t u a.answers.verdict w right r a.answers.judged (subst (λ (x : List ℕ). Judged x a.source nothing_seen u w) (sym same) j)))
+
+-- a call that was stopped, where no count rose and the schedule reads, had no memory
+pub decides_stop : (contents : Contents) (m : FileMap) (s schedule file : List ℕ) (events : List Event) (stop : Stop) → contents ≡ Some m → s ≡ schedule → HasSchedule m schedule events → (stop ≡ stops.ReadFault → ⊥) → (stop ≡ stops.Missing → ⊥) → (stop ≡ stops.Unreadable → IfSome contents (λ n. HasNoSchedule n s)) → Decides m file (status_of_stop stop)
+decides_stop contents m s schedule file events stops.ReadFault is same has read missing unread = absurd (read refl)
+decides_stop contents m s schedule file events stops.Missing is same has read missing unread = absurd (missing refl)
+decides_stop contents m s schedule file events stops.Memory is same has read missing unread = inl refl
+decides_stop contents m s schedule file events stops.Unreadable is same has read missing unread =
+    let h : HasNoSchedule m schedule = subst (λ (x : List ℕ). HasNoSchedule m x) same (subst (λ (c : Contents). IfSome c (λ n. HasNoSchedule n s)) is (unread refl)) in
+    let there : Some h.bytes ≡ Some has.bytes = sym h.there ∙ has.there in
+    let bytes : h.bytes ≡ has.bytes = cc in
+    absurd (h.unread events (subst (λ (x : List ℕ). IsSchedule x events) (sym bytes) has.reads))

@@ -1,0 +1,6 @@
+pub mod Lines
+pub mod Loaded
+pub mod Run
+pub mod Status
+pub mod Verdict
+pub mod Words

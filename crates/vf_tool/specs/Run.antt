@@ -1,0 +1,98 @@
+-- What a run prints, and what `run` answers over files that are told.
+use Rattle.std.specs.Prelude.{◌≡◌, ◌⊎◌, ℕ, Bool, true, false, List, ◌++◌, Option, Some, None}
+use Rattle.std.specs.FinMap.{get}
+use Rattle.vf_base.specs.Outside.{FileMap, Takes, TakesFront}
+use Rattle.vf_tree.specs.Core.{ProgramTree}
+use Rattle.vf_tree.specs.Shown.{program_of}
+use Rattle.vf_model.specs.declared.words.Event.{Event}
+use Rattle.vf_model.specs.Runs.{reach, outcome_of}
+use Rattle.vf_term.specs.Journal.{Seen, nothing_seen}
+use Rattle.vf_term.specs.Right.{AreRightFrom}
+use Rattle.vf_tool.specs.declared.status.Status.{Status}
+use Rattle.vf_tool.specs.declared.status.Status.TheVariants as statuses
+use Rattle.vf_tool.specs.declared.verdict.Verdict.{Verdict}
+use Rattle.vf_tool.specs.declared.verdict.Verdict.TheVariants.{Accepted, Refused}
+use Rattle.vf_tool.specs.Words.{IsRun}
+use Rattle.vf_tool.specs.Lines.{accepted_line, refusal_line, linked_line, outcome_line, closed_output}
+use Rattle.vf_tool.specs.Loaded.{HasSchedule}
+use Rattle.vf_tool.specs.Verdict.{Judged}
+
+-- what a run of the program prints: its output, and how the run stands after the events
+abbrev pub run_lines : List ℕ → ProgramTree → List Event → List ℕ
+run_lines path p events = closed_output (reach p events).output ++ outcome_line path (outcome_of p (reach p events))
+
+-- the text for a verdict: where the file is accepted it links by itself, and the plain reading of its text runs
+abbrev pub text_of : List ℕ → List Event → Verdict → List ℕ
+text_of path events (Accepted core) = accepted_line path ++ (linked_line ++ run_lines path (program_of core.plain) events)
+text_of path events (Refused refusal) = refusal_line path refusal
+
+-- whether a verdict is to accept
+abbrev pub is_accepted : Verdict → Bool
+is_accepted (Accepted core) = true
+is_accepted (Refused refusal) = false
+
+-- the status of a verdict
+abbrev pub status_of : Bool → Status
+status_of true = statuses.Done
+status_of false = statuses.Refused
+
+-- A source text has a verdict by the questions and answers that a fresh journal gained, and the answer and the text are those of the verdict.
+pub record Answers (file source : List ℕ) (events : List Event) (t : Seen) (accepted : Bool) (text : List ℕ) : Type 0 where
+  pub verdict : Verdict
+  pub judged : Judged file source nothing_seen t verdict
+  pub accepted_is : accepted ≡ is_accepted verdict
+  pub text_is : text ≡ text_of file events verdict
+
+-- The files have a schedule and a source text at these paths, and this is what comes of them.
+pub record IsAnswer (m : FileMap) (schedule file : List ℕ) (t : Seen) (accepted : Bool) (text : List ℕ) : Type 0 where
+  pub events : List Event
+  pub schedule_is : HasSchedule m schedule events
+  pub source : List ℕ
+  pub there : get m file ≡ Some source
+  pub answers : Answers file source events t accepted text
+
+-- a file that the words name is not there: the schedule, or where that reads the source text
+abbrev pub IsLacking : FileMap → List ℕ → List ℕ → Type 0
+IsLacking m schedule file = (get m schedule ≡ None) ⊎ (((events : List Event) × HasSchedule m schedule events) × (get m file ≡ None))
+
+-- The words ask for a run, and its whole text was printed.
+pub record Prints (m : FileMap) (words : List (List ℕ)) (t : Seen) (old new : Option (List ℕ)) (accepted : Bool) : Type 0 where
+  pub schedule : List ℕ
+  pub file : List ℕ
+  pub words_are : IsRun words schedule file
+  pub text : List ℕ
+  pub answer : IsAnswer m schedule file t accepted text
+  pub printed : Takes old new text
+
+-- The words ask for a run, and a front of its text was printed.
+pub record BeginsToPrint (m : FileMap) (words : List (List ℕ)) (t : Seen) (old new : Option (List ℕ)) : Type 0 where
+  pub schedule : List ℕ
+  pub file : List ℕ
+  pub words_are : IsRun words schedule file
+  pub accepted : Bool
+  pub text : List ℕ
+  pub answer : IsAnswer m schedule file t accepted text
+  pub printed : TakesFront old new text
+
+-- what holds where the status is that of a verdict
+abbrev pub OnVerdict : Status → (Bool → Type 0) → Type 0
+OnVerdict statuses.Done P = P true
+OnVerdict statuses.Refused P = P false
+OnVerdict _ P = Unit {0}
+
+-- What a told sink has taken where there is no verdict to answer: of a sink that failed, or had no memory, a front of the text; in every other case nothing
+abbrev pub OnStop : Status → Type 0 → Type 0 → Type 0
+OnStop statuses.Done begins quiet = Unit {0}
+OnStop statuses.Refused begins quiet = Unit {0}
+OnStop statuses.WriteFault begins quiet = begins
+OnStop statuses.Memory begins quiet = begins ⊎ quiet
+OnStop _ begins quiet = quiet
+
+-- the words ask for a run of files of which this holds
+abbrev pub OfRun : List (List ℕ) → (List ℕ → List ℕ → Type 0) → Type 0
+OfRun words P = (schedule file : List ℕ) × IsRun words schedule file × P schedule file
+
+-- The verdict of the source text by right answers, whichever they are, is the one that the status tells; or there was no memory.
+abbrev pub Decides : FileMap → List ℕ → Status → Type 0
+Decides m file status = (status ≡ statuses.Memory) ⊎ ((source : List ℕ) × (get m file ≡ Some source)
+    × ((t : Seen) (v : Verdict) → AreRightFrom 0 t → Judged file source nothing_seen t v → status ≡ status_of (is_accepted v)))

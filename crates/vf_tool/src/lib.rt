@@ -1,0 +1,13 @@
+//! The one public call of `vf`: from the words of the command line to what is printed.
+#![tactic(auto)]
+
+mod answer;
+mod lines;
+mod load;
+mod run;
+mod status;
+mod verdict;
+mod words;
+
+pub use run::run_words;
+pub use status::Status;
