@@ -43,7 +43,7 @@ number_none text none =
     let digits = take (prefix_len is_ascii_digit text) text in
     let rest = drop (prefix_len is_ascii_digit text) text in
     no_number (digits_value 10 digits) digits rest (nat_le (digits_value 10 digits) 2147483647) (bytes_eq (decimal (digits_value 10 digits)) digits) refl refl
-      (λ le e. none (digits_value 10 digits) rest le (is_front text digits rest (digits_value 10 digits) refl refl (sym e)))
+    (λ le e. none (digits_value 10 digits) rest le (is_front text digits rest (digits_value 10 digits) refl refl (sym e)))
 
 -- words and numbers end alike
 pub ends_alike : (n : ℕ) (rest : List ℕ) → ends (Number n) rest ≡ ends (Word []) rest

@@ -75,7 +75,7 @@ number_full n s t h = rw (next_full (Number n, h.0) s t h.1) refl
 -- the sign with a number
 abbrev sign_back : ℕ → Sign
 sign_back n = cond (nat_eq n 0) Open (cond (nat_eq n 1) Close (cond (nat_eq n 2) OpenBrace (cond (nat_eq n 3) CloseBrace (cond (nat_eq n 4) Semicolon
-  (cond (nat_eq n 5) Becomes (cond (nat_eq n 6) Equal (cond (nat_eq n 7) Plus (cond (nat_eq n 8) Minus Annotation))))))))
+    (cond (nat_eq n 5) Becomes (cond (nat_eq n 6) Equal (cond (nat_eq n 7) Plus (cond (nat_eq n 8) Minus Annotation))))))))
 
 sign_back_is : (s : Sign) → sign_back (sign_number s) ≡ s
 sign_back_is Open = refl

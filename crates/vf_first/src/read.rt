@@ -366,5 +366,4 @@ pub fn read_first(
 pub fn one_reading()
     ensures { (path : List ℕ) (file : ℕ) (bytes : List ℕ) (first second : Core)
         → Spells path file bytes first → Spells path file bytes second → first ≡ second }
-{
-}
+{}
