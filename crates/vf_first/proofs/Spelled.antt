@@ -1,7 +1,7 @@
 -- A token in front of a text is read just where it is spelled there and is as long as it can be.
-use Rattle.std.proofs.Common.{◌≡◌, ℕ, suc, ◌+◌, ◌-◌, ◌<◌, ◌≤◌, ◌^◌, Bool, true, false, cond, List, [], ◌∷◌, ◌++◌, length, take, drop, Option, Some, None, refl, sym, ap, subst, ◌∙◌, inl, inr, append_assoc, arith}
-use Rattle.std.specs.Prelude.{nat_le, nat_eq, ◌==◌, not, ◌||◌, ◌&&◌}
-use Rattle.std.specs.Char.{is_ascii_digit, is_ascii_alphabetic, digit_value}
+use Rattle.std.proofs.Common.{◌≡◌, ℕ, suc, ◌+◌, ◌-◌, ◌<◌, ◌≤◌, ◌^◌, Bool, true, false, cond, List, [], ◌∷◌, ◌++◌, length, take, drop, Option, Some, refl, sym, ap, subst, ◌∙◌, inl, inr, arith}
+use Rattle.std.specs.Prelude.{nat_le, nat_eq, not, ◌&&◌}
+use Rattle.std.specs.Char.{is_ascii_digit}
 use Rattle.std.specs.List.{prefix_len, starts_with, AllByRecursion}
 use Rattle.std.specs.Str.{bytes_eq}
 use Rattle.std.specs.Str.Parse.{digits_value, AllDigits}
@@ -10,12 +10,12 @@ use Rattle.std.proofs.lemmas.Bool.Decides.{nat_tests}
 use Rattle.std.proofs.lemmas.List.{take-append-drop, take_at, drop_at, length-append}
 use Rattle.std.proofs.lemmas.Fmt.{decimal_nonempty}
 use Rattle.vf_base.specs.declared.place.Place.{Place}
-use Rattle.vf_base.specs.Decimal.{decimal, begins_with_digit, IsDecimalFront}
+use Rattle.vf_base.specs.Decimal.{decimal, begins_with_digit}
 use Rattle.vf_base.proofs.DecimalLaws.{AllDigits-decimal, digit_tests}
 use Rattle.vf_first.specs.declared.token.Sign.{Sign}
 use Rattle.vf_first.specs.declared.token.Sign.TheVariants.{Open, Close, OpenBrace, CloseBrace, Semicolon, Becomes, Equal, Plus, Minus, Annotation}
 use Rattle.vf_first.specs.Lexemes.{Lexeme, Word, Number, Punctuator, Spot, Stands, spelling, sign_text, IsWord, IsLexeme, ends, sign_goes_on, is_letter, is_word_byte, is_blank, IsGap, right, place_behind, place_after}
-use Rattle.vf_first.specs.Reading.{◌>>=◌, Front, some, behind_gap, word_front, number_from, number_front, one_sign, first_sign, sign_front, front_of, front_at, next_at}
+use Rattle.vf_first.specs.Reading.{Front, some, behind_gap, word_front, number_from, number_front, one_sign, first_sign, sign_front, front_of, front_at, next_at}
 use Rattle.vf_first.proofs.Facts.{Sound, Full, bind_some, some_pair, chose, passed, no_true}
 use Rattle.vf_first.proofs.Fronts.{bytes_are, number_found}
 

@@ -1,18 +1,18 @@
 -- Statements: what is read is of the grammar, and what is of the grammar is read.
-use Rattle.std.proofs.Common.{◌≡◌, ℕ, zero, suc, ◌+◌, ◌<◌, ◌≤◌, Bool, true, false, cond, List, [], ◌∷◌, ◌++◌, length, codes, Option, Some, None, refl, sym, ap, subst, ◌∙◌, inl, inr, arith}
+use Rattle.std.proofs.Common.{◌≡◌, ℕ, zero, suc, ◌+◌, ◌<◌, ◌≤◌, Bool, true, false, List, [], ◌∷◌, ◌++◌, length, codes, Option, Some, None, refl, sym, ap, subst, ◌∙◌, inl, inr, arith}
 use Rattle.std.specs.Prelude.{is_some}
 use Rattle.std.specs.Str.{bytes_eq}
 use Rattle.vf_base.specs.declared.place.Place.{Place}
 use Rattle.vf_tree.specs.declared.unit.Expression.{Expression}
 use Rattle.vf_tree.specs.declared.unit.CoreStep.{CoreStep}
 use Rattle.vf_tree.specs.declared.unit.CoreStep.TheVariants as core_steps
-use Rattle.vf_first.specs.Lexemes.{Word, Number, Punctuator, Spot, Stands, is_keyword}
+use Rattle.vf_first.specs.Lexemes.{Word, Spot, Stands, is_keyword}
 use Rattle.vf_first.specs.FirstForm
 use Rattle.vf_first.specs.FirstForm.{Names, local_of, IsSum, AreStatements}
-use Rattle.vf_first.specs.Reading.{◌>>=◌, Read, some, word_at, sum_at, value_at, Statement, declaration_at, assignment_at, statement_at, statements_at, is_return}
-use Rattle.vf_first.proofs.Facts.{Sound, Full, bind_some, some_pair, moved, chose, passed, not_stopped, no_true}
-use Rattle.vf_first.proofs.Fronts.{bytes_are, same_bytes}
-use Rattle.vf_first.proofs.Parts.{IsWordAt, word_sound, word_full, IsValue, value_sound, value_full, value_shorter, sum_sound, sum_full, sum_shorter, shorter}
+use Rattle.vf_first.specs.Reading.{some, word_at, sum_at, value_at, Statement, declaration_at, assignment_at, statement_at, statements_at, is_return}
+use Rattle.vf_first.proofs.Facts.{Sound, Full, bind_some, moved, chose, not_stopped, no_true}
+use Rattle.vf_first.proofs.Fronts.{bytes_are}
+use Rattle.vf_first.proofs.Parts.{word_sound, word_full, IsValue, value_sound, value_full, value_shorter, sum_sound, sum_full, sum_shorter, shorter}
 
 -- what follows `int`
 pub record IsDeclaration (names : Names) (next : ℕ) (x : Statement) (s t : Spot) : Type 0 where

@@ -1,7 +1,7 @@
 -- Annotations and units: what is read is of the grammar, what is of the grammar is read, and so a text has one reading.
-use Rattle.std.proofs.Common.{◌≡◌, ℕ, ◌<◌, ◌≤◌, Bool, true, false, cond, List, [], ◌∷◌, ◌++◌, length, codes, pos, Option, Some, None, refl, sym, ap, subst, ◌∙◌, inl, inr, arith}
+use Rattle.std.proofs.Common.{◌≡◌, ℕ, ◌≤◌, Bool, true, false, List, [], ◌∷◌, length, codes, pos, Some, None, refl, sym, ap, subst, ◌∙◌, inl, inr, arith}
 use Rattle.std.specs.Prelude.{nat_lt, nat_eq, ◌&&◌}
-use Rattle.std.specs.List.{list_all, AllByRecursion}
+use Rattle.std.specs.List.{list_all}
 use Rattle.std.specs.Str.{bytes_eq}
 use Rattle.std.proofs.lemmas.Bool.{eqb-true, ltb-true, lt-ltb}
 use Rattle.std.proofs.Common.{eq-eqb}
@@ -11,14 +11,14 @@ use Rattle.vf_tree.specs.declared.unit.Pure.{Pure}
 use Rattle.vf_tree.specs.declared.unit.Pure.TheVariants as pures
 use Rattle.vf_tree.specs.declared.unit.Core.{Core}
 use Rattle.vf_first.specs.declared.token.Sign.{Sign}
-use Rattle.vf_first.specs.declared.token.Sign.TheVariants.{Open, Close, OpenBrace, CloseBrace, Semicolon, Becomes, Equal, Annotation}
+use Rattle.vf_first.specs.declared.token.Sign.TheVariants.{Open, Close, OpenBrace, CloseBrace, Semicolon, Equal, Annotation}
 use Rattle.vf_first.specs.Lexemes.{Word, Number, Punctuator, Spot, Stands, IsGap, is_blank}
 use Rattle.vf_first.specs.FirstForm
 use Rattle.vf_first.specs.FirstForm.{AreStatements, BeginsLine, IsPrecondition, IsPostcondition, IsAnnotation, IsUnit, Spells}
-use Rattle.vf_first.specs.Reading.{◌>>=◌, Read, some, word_at, keyword_at, number_at, sign_at, first_sign_at, opening_at, ending_at, precondition_at, result_at, content_at, postcondition_at, heading_at, statements_at, block_at, core_of, unit_at}
+use Rattle.vf_first.specs.Reading.{some, word_at, keyword_at, number_at, sign_at, first_sign_at, opening_at, ending_at, precondition_at, result_at, content_at, postcondition_at, heading_at, statements_at, block_at, core_of, unit_at}
 use Rattle.vf_first.proofs.Facts.{Sound, Full, bind_some, some_pair, moved, chose, passed, no_true}
-use Rattle.vf_first.proofs.Fronts.{bytes_are, same_bytes}
-use Rattle.vf_first.proofs.Parts.{IsNumberAt, word_sound, word_full, keyword_sound, keyword_full, number_sound, number_full, sign_sound, sign_full}
+use Rattle.vf_first.proofs.Fronts.{bytes_are}
+use Rattle.vf_first.proofs.Parts.{word_sound, word_full, keyword_sound, keyword_full, number_sound, number_full, sign_sound, sign_full}
 use Rattle.vf_first.proofs.Statements.{statements_sound, statements_full}
 
 -- ---- annotations
