@@ -1,5 +1,5 @@
 -- A number in front of a text.
-use Rattle.std.proofs.Common.{◌≡◌, ℕ, ◌<◌, ◌≤◌, ◌^◌, Bool, true, false, cond, List, [], ◌∷◌, length, take, drop, Some, None, refl, sym, ap, subst, ◌∙◌, arith}
+use Rattle.std.proofs.Common.{◌≡◌, ℕ, ◌<◌, ◌≤◌, ◌^◌, Bool, true, false, cond, List, [], ◌∷◌, take, drop, Some, None, refl, sym, ap, ◌∙◌, arith}
 use Rattle.std.specs.Prelude.{nat_le}
 use Rattle.std.specs.Char.{is_ascii_digit}
 use Rattle.std.specs.List.{prefix_len}
@@ -10,8 +10,8 @@ use Rattle.std.proofs.lemmas.Slice.Eq.{bytes_eq-Decides}
 use Rattle.std.proofs.lemmas.Fmt.{digits_value-decimal}
 use Rattle.vf_base.specs.Decimal.{decimal, IsDecimalFront}
 use Rattle.vf_base.proofs.DecimalLaws.{own, front_is, is_front}
-use Rattle.vf_first.specs.Lexemes.{Lexeme, Word, Number, ends}
-use Rattle.vf_first.specs.Reading.{Front, number_from, number_front}
+use Rattle.vf_first.specs.Lexemes.{Word, Number, ends}
+use Rattle.vf_first.specs.Reading.{number_from, number_front}
 
 fits : (n : ℕ) → n ≤ 2147483647 → n < 2 ^ 64
 fits n h = omega arith
@@ -43,7 +43,7 @@ number_none text none =
     let digits = take (prefix_len is_ascii_digit text) text in
     let rest = drop (prefix_len is_ascii_digit text) text in
     no_number (digits_value 10 digits) digits rest (nat_le (digits_value 10 digits) 2147483647) (bytes_eq (decimal (digits_value 10 digits)) digits) refl refl
-      (λ le e. none (digits_value 10 digits) rest le (is_front text digits rest (digits_value 10 digits) refl refl (sym e)))
+    (λ le e. none (digits_value 10 digits) rest le (is_front text digits rest (digits_value 10 digits) refl refl (sym e)))
 
 -- words and numbers end alike
 pub ends_alike : (n : ℕ) (rest : List ℕ) → ends (Number n) rest ≡ ends (Word []) rest

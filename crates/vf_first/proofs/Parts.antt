@@ -1,5 +1,5 @@
 -- Single tokens, operands and sums: what is read is of the grammar, and what is of the grammar is read.
-use Rattle.std.proofs.Common.{◌≡◌, ℕ, zero, suc, ◌+◌, ◌<◌, ◌≤◌, ◌^◌, Bool, true, false, cond, List, [], ◌∷◌, ◌++◌, length, pos, Option, Some, None, refl, sym, ap, subst, ◌∙◌, inl, inr, arith}
+use Rattle.std.proofs.Common.{◌≡◌, ℕ, zero, suc, ◌<◌, ◌≤◌, ◌^◌, true, cond, List, [], ◌∷◌, ◌++◌, length, Option, Some, None, refl, sym, ap, subst, ◌∙◌, arith}
 use Rattle.std.specs.Prelude.{nat_eq}
 use Rattle.std.specs.Option.{option_map_or}
 use Rattle.std.specs.Str.{bytes_eq}
@@ -7,11 +7,9 @@ use Rattle.std.proofs.lemmas.Bool.{eqb-true}
 use Rattle.std.proofs.lemmas.List.{length-append}
 use Rattle.std.proofs.lemmas.Fmt.{decimal_nonempty}
 use Rattle.vf_base.specs.declared.place.Place.{Place}
-use Rattle.vf_base.specs.Decimal.{decimal}
 use Rattle.vf_tree.specs.declared.unit.Operator.{Operator}
 use Rattle.vf_tree.specs.declared.unit.Operator.TheVariants as operators
 use Rattle.vf_tree.specs.declared.unit.Operand.{Operand}
-use Rattle.vf_tree.specs.declared.unit.Operand.TheVariants as operands
 use Rattle.vf_tree.specs.declared.unit.Link.{Link}
 use Rattle.vf_tree.specs.declared.unit.Expression.{Expression}
 use Rattle.vf_first.specs.declared.token.Sign.{Sign}
@@ -19,8 +17,8 @@ use Rattle.vf_first.specs.declared.token.Sign.TheVariants.{Open, Close, OpenBrac
 use Rattle.vf_first.specs.Lexemes.{Lexeme, Word, Number, Punctuator, Spot, Stands, IsLexeme, spelling, sign_text}
 use Rattle.vf_first.specs.FirstForm
 use Rattle.vf_first.specs.FirstForm.{Names, local_of, operator_sign, IsOperand, AreLinks, IsSum}
-use Rattle.vf_first.specs.Reading.{◌>>=◌, Read, some, sign_number, next_at, word_from, word_at, keyword_at, number_of, number_at, sign_from, sign_at, operand_from, operand_at, linked_at, link_from, link_at, links_at, sum_at, value_at}
-use Rattle.vf_first.proofs.Facts.{Sound, Full, bind_some, some_pair, moved, passed, no_true}
+use Rattle.vf_first.specs.Reading.{◌>>=◌, some, sign_number, next_at, word_from, word_at, keyword_at, number_of, number_at, sign_from, sign_at, operand_from, operand_at, linked_at, link_from, link_at, links_at, sum_at, value_at}
+use Rattle.vf_first.proofs.Facts.{Sound, Full, bind_some, moved, passed}
 use Rattle.vf_first.proofs.Fronts.{bytes_are, same_bytes}
 use Rattle.vf_first.proofs.Spelled.{next_sound, next_full}
 
@@ -75,7 +73,7 @@ number_full n s t h = rw (next_full (Number n, h.0) s t h.1) refl
 -- the sign with a number
 abbrev sign_back : ℕ → Sign
 sign_back n = cond (nat_eq n 0) Open (cond (nat_eq n 1) Close (cond (nat_eq n 2) OpenBrace (cond (nat_eq n 3) CloseBrace (cond (nat_eq n 4) Semicolon
-  (cond (nat_eq n 5) Becomes (cond (nat_eq n 6) Equal (cond (nat_eq n 7) Plus (cond (nat_eq n 8) Minus Annotation))))))))
+    (cond (nat_eq n 5) Becomes (cond (nat_eq n 6) Equal (cond (nat_eq n 7) Plus (cond (nat_eq n 8) Minus Annotation))))))))
 
 sign_back_is : (s : Sign) → sign_back (sign_number s) ≡ s
 sign_back_is Open = refl

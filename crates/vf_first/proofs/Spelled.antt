@@ -1,7 +1,7 @@
 -- A token in front of a text is read just where it is spelled there and is as long as it can be.
-use Rattle.std.proofs.Common.{◌≡◌, ℕ, suc, ◌+◌, ◌-◌, ◌<◌, ◌≤◌, ◌^◌, Bool, true, false, cond, List, [], ◌∷◌, ◌++◌, length, take, drop, Option, Some, None, refl, sym, ap, subst, ◌∙◌, inl, inr, append_assoc, arith}
-use Rattle.std.specs.Prelude.{nat_le, nat_eq, ◌==◌, not, ◌||◌, ◌&&◌}
-use Rattle.std.specs.Char.{is_ascii_digit, is_ascii_alphabetic, digit_value}
+use Rattle.std.proofs.Common.{◌≡◌, ℕ, suc, ◌+◌, ◌-◌, ◌<◌, ◌≤◌, ◌^◌, Bool, true, false, cond, List, [], ◌∷◌, ◌++◌, length, take, drop, Option, Some, refl, sym, ap, subst, ◌∙◌, inl, inr, arith}
+use Rattle.std.specs.Prelude.{nat_le, nat_eq, not, ◌&&◌}
+use Rattle.std.specs.Char.{is_ascii_digit}
 use Rattle.std.specs.List.{prefix_len, starts_with, AllByRecursion}
 use Rattle.std.specs.Str.{bytes_eq}
 use Rattle.std.specs.Str.Parse.{digits_value, AllDigits}
@@ -10,12 +10,12 @@ use Rattle.std.proofs.lemmas.Bool.Decides.{nat_tests}
 use Rattle.std.proofs.lemmas.List.{take-append-drop, take_at, drop_at, length-append}
 use Rattle.std.proofs.lemmas.Fmt.{decimal_nonempty}
 use Rattle.vf_base.specs.declared.place.Place.{Place}
-use Rattle.vf_base.specs.Decimal.{decimal, begins_with_digit, IsDecimalFront}
+use Rattle.vf_base.specs.Decimal.{decimal, begins_with_digit}
 use Rattle.vf_base.proofs.DecimalLaws.{AllDigits-decimal, digit_tests}
 use Rattle.vf_first.specs.declared.token.Sign.{Sign}
 use Rattle.vf_first.specs.declared.token.Sign.TheVariants.{Open, Close, OpenBrace, CloseBrace, Semicolon, Becomes, Equal, Plus, Minus, Annotation}
 use Rattle.vf_first.specs.Lexemes.{Lexeme, Word, Number, Punctuator, Spot, Stands, spelling, sign_text, IsWord, IsLexeme, ends, sign_goes_on, is_letter, is_word_byte, is_blank, IsGap, right, place_behind, place_after}
-use Rattle.vf_first.specs.Reading.{◌>>=◌, Front, some, behind_gap, word_front, number_from, number_front, one_sign, first_sign, sign_front, front_of, front_at, next_at}
+use Rattle.vf_first.specs.Reading.{Front, some, behind_gap, word_front, number_from, number_front, one_sign, first_sign, sign_front, front_of, front_at, next_at}
 use Rattle.vf_first.proofs.Facts.{Sound, Full, bind_some, some_pair, chose, passed, no_true}
 use Rattle.vf_first.proofs.Fronts.{bytes_are, number_found}
 
@@ -56,7 +56,7 @@ letter_in_word b h = rw h refl
 
 span_all_at : (p : ℕ → Bool) (b : ℕ) (bs : List ℕ) (t : Bool) → p b ≡ t → AllByRecursion (λ c. p c ≡ true) (take (prefix_len p bs) bs) → AllByRecursion (λ c. p c ≡ true) (take (cond t (1 + prefix_len p bs) 0) (b ∷ bs))
 span_all_at p b bs true e more = rw one_more (e, more)
-    where
+  where
     one_more : 1 + prefix_len p bs ≡ suc (prefix_len p bs)
     one_more = omega arith
 span_all_at p b bs false e more = tt
@@ -72,14 +72,14 @@ span_len p (b ∷ w) rest all = rw (all.0, span_len p w rest all.1) (omega arith
 word_ends : (w rest : List ℕ) → ends (Word w) rest ≡ true → prefix_len is_word_byte rest ≡ 0
 word_ends w [] e = refl
 word_ends w (b ∷ bs) e = word_ends_at (is_word_byte b) (prefix_len is_word_byte bs) e
-    where
+  where
     word_ends_at : (t : Bool) (n : ℕ) → not t ≡ true → cond t (1 + n) 0 ≡ 0
     word_ends_at true n e = no_true e
     word_ends_at false n e = refl
 
 word_stops_at : (w : List ℕ) (t : Bool) (b : ℕ) (bs : List ℕ) → is_word_byte b ≡ t → ends (Word w) (drop (prefix_len is_word_byte bs) bs) ≡ true → ends (Word w) (drop (cond t (1 + prefix_len is_word_byte bs) 0) (b ∷ bs)) ≡ true
 word_stops_at w true b bs e more = rw one_more more
-    where
+  where
     one_more : 1 + prefix_len is_word_byte bs ≡ suc (prefix_len is_word_byte bs)
     one_more = omega arith
 word_stops_at w false b bs e more = rw e refl
@@ -90,10 +90,10 @@ word_stops w (b ∷ bs) = word_stops_at w (is_word_byte b) b bs refl (word_stops
 
 word_form : (b : ℕ) (bs : List ℕ) → is_letter b ≡ true → IsWord (take (prefix_len is_word_byte (b ∷ bs)) (b ∷ bs))
 word_form b bs h = word_form_at (is_word_byte b) (letter_in_word b h) (span_all is_word_byte bs)
-    where
+  where
     word_form_at : (t : Bool) → t ≡ true → AllByRecursion (λ c. is_word_byte c ≡ true) (take (prefix_len is_word_byte bs) bs) → IsWord (take (cond t (1 + prefix_len is_word_byte bs) 0) (b ∷ bs))
     word_form_at true e all = rw one_more (h, all)
-        where
+      where
         one_more : 1 + prefix_len is_word_byte bs ≡ suc (prefix_len is_word_byte bs)
         one_more = omega arith
     word_form_at false e all = no_true e
@@ -199,9 +199,9 @@ sign_sound text t rest e =
     elim (chose (starts_with nat_eq text (47 ∷ 47 ∷ 64 ∷ [])) _ _ (front t rest) e) [
       | inl h ↦ fronts_same text (Punctuator Annotation) t (drop 3 text) rest h.1 (record { parts = starts_parts 3 (47 ∷ 47 ∷ 64 ∷ []) text refl h.0; form = tt; longest = never Annotation (λ c. refl) (drop 3 text) })
       | inr g ↦ elim (chose (starts_with nat_eq text (61 ∷ 61 ∷ [])) _ _ (front t rest) g.1) [
-          | inl h ↦ fronts_same text (Punctuator Equal) t (drop 2 text) rest h.1 (record { parts = starts_parts 2 (61 ∷ 61 ∷ []) text refl h.0; form = tt; longest = never Equal (λ c. refl) (drop 2 text) })
-          | inr h ↦ first_sign_sound text t rest h.0 h.1
-        ]
+        | inl h ↦ fronts_same text (Punctuator Equal) t (drop 2 text) rest h.1 (record { parts = starts_parts 2 (61 ∷ 61 ∷ []) text refl h.0; form = tt; longest = never Equal (λ c. refl) (drop 2 text) })
+        | inr h ↦ first_sign_sound text t rest h.0 h.1
+      ]
     ]
 
 pub front_sound : (text : List ℕ) (t : Lexeme) (rest : List ℕ) → front_of text ≡ Some (t, rest) → Fronts text t rest
@@ -211,9 +211,9 @@ front_sound (b ∷ bs) t rest e =
     elim (chose (is_letter b) _ _ (front t rest) e) [
       | inl h ↦ word_sound b bs t rest h.0 h.1
       | inr g ↦ elim (chose (is_ascii_digit b) _ _ (front t rest) g.1) [
-          | inl h ↦ number_sound (b ∷ bs) t rest h.1
-          | inr h ↦ sign_sound (b ∷ bs) t rest h.1
-        ]
+        | inl h ↦ number_sound (b ∷ bs) t rest h.1
+        | inr h ↦ sign_sound (b ∷ bs) t rest h.1
+      ]
     ]
 
 -- ---- and the other way
@@ -232,16 +232,17 @@ digit_first : (ds rest : List ℕ) → AllDigits 10 ds → 0 < length ds → fro
 unfolding front_of
 digit_first [] rest all some = absurd (omega arith)
 digit_first (d ∷ ds) rest all some = digit_at d (ds ++ rest) (digit_tests d all.0) (no_letter d (digit_tests d all.0))
-    where
+  where
     digit_at : (b : ℕ) (bs : List ℕ) → is_ascii_digit b ≡ true → is_letter b ≡ false → cond (is_letter b) (word_front (b ∷ bs)) (cond (is_ascii_digit b) (number_front (b ∷ bs)) (sign_front (b ∷ bs))) ≡ number_front (b ∷ bs)
     digit_at b bs d l = rw (l, d) refl
+
     no_letter : (b : ℕ) → is_ascii_digit b ≡ true → is_letter b ≡ false
     no_letter b h = grind (arith, nat_tests)
 
 no_digit_behind : (n : ℕ) (rest : List ℕ) → ends (Number n) rest ≡ true → begins_with_digit rest ≡ false
 no_digit_behind n [] e = refl
 no_digit_behind n (b ∷ bs) e = other b e
-    where
+  where
     other : (b : ℕ) → not (is_word_byte b) ≡ true → is_ascii_digit b ≡ false
     other b e = grind (arith, nat_tests)
 
@@ -257,7 +258,7 @@ becomes_full : (rest : List ℕ) → ends (Punctuator Becomes) rest ≡ true →
 unfolding front_of sign_front
 becomes_full [] e = refl
 becomes_full (c ∷ rest) e = rw (other c e) refl
-    where
+  where
     other : (c : ℕ) → not (nat_eq c 61) ≡ true → nat_eq 61 c ≡ false
     other c e = grind (arith, nat_tests)
 
@@ -287,7 +288,7 @@ no_blank_letter b h = grind (arith, nat_tests)
 no_blank_digit : (ds rest : List ℕ) → AllDigits 10 ds → 0 < length ds → begins_blank (ds ++ rest) ≡ false
 no_blank_digit [] rest all some = absurd (omega arith)
 no_blank_digit (d ∷ ds) rest all some = other d (digit_tests d all.0)
-    where
+  where
     other : (b : ℕ) → is_ascii_digit b ≡ true → is_blank b ≡ false
     other b h = grind (arith, nat_tests)
 
@@ -342,7 +343,7 @@ next_sound s x t e =
     let f = bind_some {r = front_of g.text} e in
     let fronts = front_sound g.text f.0.0 f.0.1 f.1 in
     let to : behind g.place g.text f.0.1 ≡ record { place = right g.place (length (spelling f.0.0)); text = f.0.1 } =
-      ap (λ (text : List ℕ). behind g.place text f.0.1) fronts.parts ∙ behind_is g.place (spelling f.0.0) f.0.1 in
+    ap (λ (text : List ℕ). behind g.place text f.0.1) fronts.parts ∙ behind_is g.place (spelling f.0.0) f.0.1 in
     let p = some_pair (f.0.0, g.place) x (behind g.place g.text f.0.1) t f.2 in
     let stands = next_is s g f.0.0 f.0.1 (skipped s.place s.text) fronts in
     subst (λ (y : Lexeme × Place). IsNext y s t) p.0 (subst (λ (r : Spot). Stands f.0.0 g.place s r) (sym to ∙ p.1) stands)
@@ -352,7 +353,7 @@ unfolding next_at
 next_full x s t h =
     let text = spelling x.0 ++ t.text in
     let gap : behind_gap s.place s.text ≡ record { place = x.1; text = text } =
-      ap (behind_gap s.place) h.text ∙ gap_is s.place h.gap text h.blank (no_blank x.0 t.text h.form) ∙ ap (λ (p : Place). record { place = p; text = text }) (sym h.at) in
+    ap (behind_gap s.place) h.text ∙ gap_is s.place h.gap text h.blank (no_blank x.0 t.text h.form) ∙ ap (λ (p : Place). record { place = p; text = text }) (sym h.at) in
     let at : front_at (record { place = x.1; text = text }) ≡ some x (behind x.1 text t.text) = rw (front_full x.0 t.text h.form h.longest) refl in
     let to : behind x.1 text t.text ≡ t = behind_is x.1 (spelling x.0) t.text ∙ ap (λ (p : Place). record { place = p; text = t.text }) (sym h.behind) in
     ap front_at gap ∙ at ∙ ap (some x) to

@@ -1,18 +1,18 @@
 -- Statements: what is read is of the grammar, and what is of the grammar is read.
-use Rattle.std.proofs.Common.{◌≡◌, ℕ, zero, suc, ◌+◌, ◌<◌, ◌≤◌, Bool, true, false, cond, List, [], ◌∷◌, ◌++◌, length, codes, Option, Some, None, refl, sym, ap, subst, ◌∙◌, inl, inr, arith}
+use Rattle.std.proofs.Common.{◌≡◌, ℕ, zero, suc, ◌+◌, ◌<◌, ◌≤◌, Bool, true, false, List, [], ◌∷◌, ◌++◌, length, codes, Option, Some, None, refl, sym, ap, subst, ◌∙◌, inl, inr, arith}
 use Rattle.std.specs.Prelude.{is_some}
 use Rattle.std.specs.Str.{bytes_eq}
 use Rattle.vf_base.specs.declared.place.Place.{Place}
 use Rattle.vf_tree.specs.declared.unit.Expression.{Expression}
 use Rattle.vf_tree.specs.declared.unit.CoreStep.{CoreStep}
 use Rattle.vf_tree.specs.declared.unit.CoreStep.TheVariants as core_steps
-use Rattle.vf_first.specs.Lexemes.{Word, Number, Punctuator, Spot, Stands, is_keyword}
+use Rattle.vf_first.specs.Lexemes.{Word, Spot, Stands, is_keyword}
 use Rattle.vf_first.specs.FirstForm
 use Rattle.vf_first.specs.FirstForm.{Names, local_of, IsSum, AreStatements}
-use Rattle.vf_first.specs.Reading.{◌>>=◌, Read, some, word_at, sum_at, value_at, Statement, declaration_at, assignment_at, statement_at, statements_at, is_return}
-use Rattle.vf_first.proofs.Facts.{Sound, Full, bind_some, some_pair, moved, chose, passed, not_stopped, no_true}
-use Rattle.vf_first.proofs.Fronts.{bytes_are, same_bytes}
-use Rattle.vf_first.proofs.Parts.{IsWordAt, word_sound, word_full, IsValue, value_sound, value_full, value_shorter, sum_sound, sum_full, sum_shorter, shorter}
+use Rattle.vf_first.specs.Reading.{some, word_at, sum_at, value_at, Statement, declaration_at, assignment_at, statement_at, statements_at, is_return}
+use Rattle.vf_first.proofs.Facts.{Sound, Full, bind_some, moved, chose, not_stopped, no_true}
+use Rattle.vf_first.proofs.Fronts.{bytes_are}
+use Rattle.vf_first.proofs.Parts.{word_sound, word_full, IsValue, value_sound, value_full, value_shorter, sum_sound, sum_full, sum_shorter, shorter}
 
 -- what follows `int`
 pub record IsDeclaration (names : Names) (next : ℕ) (x : Statement) (s t : Spot) : Type 0 where
@@ -51,7 +51,10 @@ declaration_sound names next s x t e =
     let unknown = not_stopped (is_some (local_of names name)) _ (x, t) free.1 in
     let v = bind_some {r = value_at names w.0.1} unknown.1 in
     declared_moved (core_steps.Set (length names) v.0.0 next, names ++ name ∷ []) x v.0.1 t v.2 (record {
-      name = name; value = v.0.0; place = w.0.0.1; mid = w.0.1;
+      name = name;
+      value = v.0.0;
+      place = w.0.0.1;
+      mid = w.0.1;
       stands = word_sound s w.0.0 w.0.1 w.1;
       free = free.0;
       unknown = none_is (local_of names name) unknown.0;
@@ -74,7 +77,8 @@ assignment_sound names next w s x t e =
     let k = bind_some {r = local_of names w} free.1 in
     let v = bind_some {r = value_at names s} k.2 in
     assigned_moved (core_steps.Set k.0 v.0.0 next, names) x v.0.1 t v.2 (record {
-      local = k.0; value = v.0.0;
+      local = k.0;
+      value = v.0.0;
       free = free.0;
       known = k.1;
       has_value = value_sound names s v.0.0 v.0.1 v.1;
@@ -104,9 +108,9 @@ statement_sound names next s x t e =
           let v = bind_some {r = sum_at names w.0.1} c.1 in
           moved (λ y r. IsStatement names next y s r) v.2 (returned (word_is w.0.0.0 (codes "return") w.0.0.1 s w.0.1 c.0 h) (sum_sound names w.0.1 v.0.0 v.0.1 v.1))
       | inr d ↦ elim (chose (bytes_eq w.0.0.0 (codes "int")) _ _ (some x t) d.1) [
-          | inl c ↦ declared (word_is w.0.0.0 (codes "int") w.0.0.1 s w.0.1 c.0 h) (declaration_sound names next w.0.1 x t c.1)
-          | inr c ↦ assigned h (assignment_sound names next w.0.0.0 w.0.1 x t c.1)
-        ]
+        | inl c ↦ declared (word_is w.0.0.0 (codes "int") w.0.0.1 s w.0.1 c.0 h) (declaration_sound names next w.0.1 x t c.1)
+        | inr c ↦ assigned h (assignment_sound names next w.0.0.0 w.0.1 x t c.1)
+      ]
     ]
 
 other_word : (w v : List ℕ) (t : Bool) → bytes_eq w v ≡ t → is_keyword v ≡ true → is_keyword w ≡ false → bytes_eq w v ≡ false
@@ -127,7 +131,7 @@ statement_full names next x s t (returned {e = e} {p = p} {a = a} h g) = rw (wor
 statement_full names next x s t (declared {p = p} {a = a} h g) = rw (word_full (codes "int", p) s a h) (declaration_full names next x a t g)
 statement_full names next x s t (assigned {w = w} {p = p} {a = a} h g) =
     rw (word_full (w, p) s a h, other_word w (codes "return") (bytes_eq w (codes "return")) refl return_reserved g.free, other_word w (codes "int") (bytes_eq w (codes "int")) refl int_reserved g.free)
-      (assignment_full names next w x a t g)
+    (assignment_full names next w x a t g)
 
 pub statement_shorter : (names : Names) (next : ℕ) (x : Statement) (s t : Spot) → IsStatement names next x s t → length t.text < length s.text
 statement_shorter names next x s t (returned {e = e} {p = p} {a = a} h g) = omega (arith, shorter (Word (codes "return")) p s a h, sum_shorter names e a t g)
@@ -151,10 +155,10 @@ another_is : (names : Names) (k count : ℕ) (steps : List CoreStep) (x : Statem
 another_is names k count steps x s m t (returned h g) e more = no_true (sym e)
 another_is names k count steps x s m t (declared h g) e more =
     subst (λ (y : Statement). AreStatements names k count (y.0 ∷ steps) s t) (sym g.whole)
-      (FirstForm.declares h g.stands g.free g.unknown g.has_value.2 g.has_value.3 (subst (λ (y : Statement). AreStatements y.1 (k + 1) count steps m t) g.whole more))
+    (FirstForm.declares h g.stands g.free g.unknown g.has_value.2 g.has_value.3 (subst (λ (y : Statement). AreStatements y.1 (k + 1) count steps m t) g.whole more))
 another_is names k count steps x s m t (assigned h g) e more =
     subst (λ (y : Statement). AreStatements names k count (y.0 ∷ steps) s t) (sym g.whole)
-      (FirstForm.assigns h g.free g.known g.has_value.2 g.has_value.3 (subst (λ (y : Statement). AreStatements y.1 (k + 1) count steps m t) g.whole more))
+    (FirstForm.assigns h g.free g.known g.has_value.2 g.has_value.3 (subst (λ (y : Statement). AreStatements y.1 (k + 1) count steps m t) g.whole more))
 
 pub statements_sound : (n : ℕ) (names : Names) (k : ℕ) → Sound (statements_at n names k) (AreRead names k)
 unfolding statements_at

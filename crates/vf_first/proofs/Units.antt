@@ -1,7 +1,7 @@
 -- Annotations and units: what is read is of the grammar, what is of the grammar is read, and so a text has one reading.
-use Rattle.std.proofs.Common.{◌≡◌, ℕ, ◌<◌, ◌≤◌, Bool, true, false, cond, List, [], ◌∷◌, ◌++◌, length, codes, pos, Option, Some, None, refl, sym, ap, subst, ◌∙◌, inl, inr, arith}
+use Rattle.std.proofs.Common.{◌≡◌, ℕ, ◌≤◌, Bool, true, false, List, [], ◌∷◌, length, codes, pos, Some, None, refl, sym, ap, subst, ◌∙◌, inl, inr, arith}
 use Rattle.std.specs.Prelude.{nat_lt, nat_eq, ◌&&◌}
-use Rattle.std.specs.List.{list_all, AllByRecursion}
+use Rattle.std.specs.List.{list_all}
 use Rattle.std.specs.Str.{bytes_eq}
 use Rattle.std.proofs.lemmas.Bool.{eqb-true, ltb-true, lt-ltb}
 use Rattle.std.proofs.Common.{eq-eqb}
@@ -11,14 +11,14 @@ use Rattle.vf_tree.specs.declared.unit.Pure.{Pure}
 use Rattle.vf_tree.specs.declared.unit.Pure.TheVariants as pures
 use Rattle.vf_tree.specs.declared.unit.Core.{Core}
 use Rattle.vf_first.specs.declared.token.Sign.{Sign}
-use Rattle.vf_first.specs.declared.token.Sign.TheVariants.{Open, Close, OpenBrace, CloseBrace, Semicolon, Becomes, Equal, Annotation}
+use Rattle.vf_first.specs.declared.token.Sign.TheVariants.{Open, Close, OpenBrace, CloseBrace, Semicolon, Equal, Annotation}
 use Rattle.vf_first.specs.Lexemes.{Word, Number, Punctuator, Spot, Stands, IsGap, is_blank}
 use Rattle.vf_first.specs.FirstForm
 use Rattle.vf_first.specs.FirstForm.{AreStatements, BeginsLine, IsPrecondition, IsPostcondition, IsAnnotation, IsUnit, Spells}
-use Rattle.vf_first.specs.Reading.{◌>>=◌, Read, some, word_at, keyword_at, number_at, sign_at, first_sign_at, opening_at, ending_at, precondition_at, result_at, content_at, postcondition_at, heading_at, statements_at, block_at, core_of, unit_at}
+use Rattle.vf_first.specs.Reading.{some, word_at, keyword_at, number_at, sign_at, first_sign_at, opening_at, ending_at, precondition_at, result_at, content_at, postcondition_at, heading_at, statements_at, block_at, core_of, unit_at}
 use Rattle.vf_first.proofs.Facts.{Sound, Full, bind_some, some_pair, moved, chose, passed, no_true}
-use Rattle.vf_first.proofs.Fronts.{bytes_are, same_bytes}
-use Rattle.vf_first.proofs.Parts.{IsNumberAt, word_sound, word_full, keyword_sound, keyword_full, number_sound, number_full, sign_sound, sign_full}
+use Rattle.vf_first.proofs.Fronts.{bytes_are}
+use Rattle.vf_first.proofs.Parts.{word_sound, word_full, keyword_sound, keyword_full, number_sound, number_full, sign_sound, sign_full}
 use Rattle.vf_first.proofs.Statements.{statements_sound, statements_full}
 
 -- ---- annotations
@@ -52,7 +52,9 @@ opening_sound word s line t e =
     let m = bind_some {r = first_sign_at Annotation s} e in
     let w = bind_some {r = keyword_at word m.0.1} m.2 in
     moved (λ l r. IsOpening word l s r) w.2 (record {
-      mark = m.0.0; mid = m.0.1; place = w.0.0;
+      mark = m.0.0;
+      mid = m.0.1;
+      place = w.0.0;
       begins = first_sign_sound Annotation s m.0.0 m.0.1 m.1;
       stands = keyword_sound word m.0.1 w.0.0 w.0.1 w.1;
       same = refl;
@@ -89,7 +91,7 @@ precondition_sound s x t e =
     let opening = opening_sound (codes "requires") s o.0.0 o.0.1 o.1 in
     let ending = ending_sound o.0.0 p.0.1 c.0.0 c.0.1 c.1 in
     moved (λ y r. IsAnnotation (codes "requires") IsPrecondition y s r) c.2
-      (FirstForm.annotation opening.begins.0 opening.begins.1 opening.stands (IsPrecondition.holds (keyword_sound (codes "true") o.0.1 p.0.0 p.0.1 p.1)) ending.1 (ending.2 ∙ sym opening.same))
+    (FirstForm.annotation opening.begins.0 opening.begins.1 opening.stands (IsPrecondition.holds (keyword_sound (codes "true") o.0.1 p.0.0 p.0.1 p.1)) ending.1 (ending.2 ∙ sym opening.same))
 
 pub precondition_full : Full precondition_at (IsAnnotation (codes "requires") IsPrecondition)
 unfolding precondition_at
@@ -137,7 +139,7 @@ postcondition_sound s x t e =
     let opening = opening_sound (codes "ensures") s o.0.0 o.0.1 o.1 in
     let ending = ending_sound o.0.0 p.0.1 c.0.0 c.0.1 c.1 in
     moved (λ y r. IsAnnotation (codes "ensures") IsPostcondition y s r) c.2
-      (FirstForm.annotation opening.begins.0 opening.begins.1 opening.stands (content_sound o.0.1 p.0.0 p.0.1 p.1) ending.1 (ending.2 ∙ sym opening.same))
+    (FirstForm.annotation opening.begins.0 opening.begins.1 opening.stands (content_sound o.0.1 p.0.0 p.0.1 p.1) ending.1 (ending.2 ∙ sym opening.same))
 
 pub postcondition_full : Full postcondition_at (IsAnnotation (codes "ensures") IsPostcondition)
 unfolding postcondition_at
@@ -166,7 +168,12 @@ heading_sound s x t e =
     let o = bind_some {r = sign_at Open m.0.1} m.2 in
     let c = bind_some {r = sign_at Close o.0.1} o.2 in
     moved (λ y r. IsHeading y s r) c.2 (record {
-      before = i.0.0; opening = o.0.0; closing = c.0.0; a = i.0.1; b = m.0.1; c = o.0.1;
+      before = i.0.0;
+      opening = o.0.0;
+      closing = c.0.0;
+      a = i.0.1;
+      b = m.0.1;
+      c = o.0.1;
       type_stands = keyword_sound (codes "int") s i.0.0 i.0.1 i.1;
       name_stands = keyword_sound (codes "main") i.0.1 m.0.0 m.0.1 m.1;
       opens = sign_sound Open m.0.1 o.0.0 o.0.1 o.1;
@@ -192,7 +199,9 @@ block_sound s x t e =
     let i = bind_some {r = statements_at (length o.0.1.text) [] 0 o.0.1} o.2 in
     let c = bind_some {r = sign_at CloseBrace i.0.1} i.2 in
     moved (λ y r. IsBlock y s r) c.2 (record {
-      opening = o.0.0; a = o.0.1; b = i.0.1;
+      opening = o.0.0;
+      a = o.0.1;
+      b = i.0.1;
       begins = first_sign_sound OpenBrace s o.0.0 o.0.1 o.1;
       inner = statements_sound (length o.0.1.text) [] 0 o.0.1 i.0.0 i.0.1 i.1;
       closes = sign_sound CloseBrace i.0.1 c.0.0 c.0.1 c.1;
@@ -229,18 +238,23 @@ unit_sound path s core t e =
     let block = block_sound q.0.1 b.0.0 b.0.1 b.1 in
     let made = core_of path m.0.0 p.0.0 q.0.0 b.0.0.0.0 b.0.0.0.1 b.0.0.1 in
     let unit : IsUnit path made s = FirstForm.unit heading.type_stands heading.name_stands heading.opens heading.closes
-      (precondition_sound m.0.1 p.0.0 p.0.1 p.1) (postcondition_sound p.0.1 q.0.0 q.0.1 q.1)
-      block.begins.0 block.begins.1 block.inner block.closes (gap_sound b.0.1.text c.0) in
+    (precondition_sound m.0.1 p.0.0 p.0.1 p.1) (postcondition_sound p.0.1 q.0.0 q.0.1 q.1)
+    block.begins.0 block.begins.1 block.inner block.closes (gap_sound b.0.1.text c.0) in
     subst (λ (x : Core). IsUnit path x s) (some_pair made core b.0.1 t c.1).0 unit
 
 pub unit_full : (path : List ℕ) (s : Spot) (core : Core) → IsUnit path core s → (t : Spot) × (unit_at path s ≡ some core t)
 unfolding unit_at
 unit_full path s core (FirstForm.unit {before = before} {after = after} {count = count} {steps = steps} {p0 = p0} {name = name} {p2 = p2} {p3 = p3} {opening = opening} {closing = closing}
-    {a = a} {b = b} {c = c} {d = d} {e = e} {f = f} {g = g} {h = h} {t = t} i m o l pre post brace first inner close end) =
-    (t, rw (heading_full name s d (record { before = p0; opening = p2; closing = p3; a = a; b = b; c = c; type_stands = i; name_stands = m; opens = o; closes = l }),
-      precondition_full before d e pre, postcondition_full after e f post,
-      block_full ((steps, count), closing) f t (record { opening = opening; a = g; b = h; begins = (brace, first); inner = inner; closes = close }),
-      gap_full t.text end) refl)
+    {a = a} {b = b} {c = c} {d = d} {e = e} {f = f} {g = g} {h = h} {t = t} i m o l pre post brace first inner close end) = (
+      t,
+      rw (
+        heading_full name s d (record { before = p0; opening = p2; closing = p3; a = a; b = b; c = c; type_stands = i; name_stands = m; opens = o; closes = l }),
+        precondition_full before d e pre,
+        postcondition_full after e f post,
+        block_full ((steps, count), closing) f t (record { opening = opening; a = g; b = h; begins = (brace, first); inner = inner; closes = close }),
+        gap_full t.text end,
+      ) refl,
+    )
 
 pub same_core : (path : List ℕ) (file : ℕ) (bytes : List ℕ) (first second : Core) → Spells path file bytes first → Spells path file bytes second → first ≡ second
 same_core path file bytes first second a b =

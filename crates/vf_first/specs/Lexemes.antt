@@ -107,16 +107,16 @@ pub record Stands (token : Lexeme) (place : Place) (from next : Spot) : Type 0 w
 -- the words that are no names
 abbrev pub keywords : List (List ℕ)
 keywords = codes "any" ∷ codes "assert" ∷ codes "auto" ∷ codes "bool" ∷ codes "break" ∷ codes "case"
-  ∷ codes "char" ∷ codes "close" ∷ codes "const" ∷ codes "continue" ∷ codes "currentThread"
-  ∷ codes "default" ∷ codes "do" ∷ codes "double" ∷ codes "else" ∷ codes "emp" ∷ codes "ensures"
-  ∷ codes "enum" ∷ codes "extern" ∷ codes "false" ∷ codes "fixpoint" ∷ codes "float" ∷ codes "for"
-  ∷ codes "goto" ∷ codes "if" ∷ codes "inductive" ∷ codes "inline" ∷ codes "int" ∷ codes "invariant"
-  ∷ codes "leak" ∷ codes "lemma" ∷ codes "long" ∷ codes "malloc" ∷ codes "open" ∷ codes "predicate"
-  ∷ codes "predicate_ctor" ∷ codes "predicate_family" ∷ codes "predicate_family_instance"
-  ∷ codes "real" ∷ codes "register" ∷ codes "requires" ∷ codes "restrict" ∷ codes "result"
-  ∷ codes "return" ∷ codes "short" ∷ codes "signed" ∷ codes "sizeof" ∷ codes "static"
-  ∷ codes "struct" ∷ codes "switch" ∷ codes "this" ∷ codes "true" ∷ codes "typedef" ∷ codes "union"
-  ∷ codes "unsigned" ∷ codes "void" ∷ codes "volatile" ∷ codes "while" ∷ []
+    ∷ codes "char" ∷ codes "close" ∷ codes "const" ∷ codes "continue" ∷ codes "currentThread"
+    ∷ codes "default" ∷ codes "do" ∷ codes "double" ∷ codes "else" ∷ codes "emp" ∷ codes "ensures"
+    ∷ codes "enum" ∷ codes "extern" ∷ codes "false" ∷ codes "fixpoint" ∷ codes "float" ∷ codes "for"
+    ∷ codes "goto" ∷ codes "if" ∷ codes "inductive" ∷ codes "inline" ∷ codes "int" ∷ codes "invariant"
+    ∷ codes "leak" ∷ codes "lemma" ∷ codes "long" ∷ codes "malloc" ∷ codes "open" ∷ codes "predicate"
+    ∷ codes "predicate_ctor" ∷ codes "predicate_family" ∷ codes "predicate_family_instance"
+    ∷ codes "real" ∷ codes "register" ∷ codes "requires" ∷ codes "restrict" ∷ codes "result"
+    ∷ codes "return" ∷ codes "short" ∷ codes "signed" ∷ codes "sizeof" ∷ codes "static"
+    ∷ codes "struct" ∷ codes "switch" ∷ codes "this" ∷ codes "true" ∷ codes "typedef" ∷ codes "union"
+    ∷ codes "unsigned" ∷ codes "void" ∷ codes "volatile" ∷ codes "while" ∷ []
 
 unfoldable pub is_keyword : List ℕ → Bool
 is_keyword w = list_any (bytes_eq w) keywords

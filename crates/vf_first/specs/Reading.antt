@@ -88,7 +88,7 @@ number_front text = number_from (digits_value 10 (take (prefix_len is_ascii_digi
 
 abbrev pub one_sign : ℕ → Option Sign
 one_sign b = if b == 40 then Some Open else (if b == 41 then Some Close else (if b == 123 then Some OpenBrace else (if b == 125 then Some CloseBrace else (if b == 59 then Some Semicolon
-  else (if b == 61 then Some Becomes else (if b == 43 then Some Plus else (if b == 45 then Some Minus else None)))))))
+    else (if b == 61 then Some Becomes else (if b == 43 then Some Plus else (if b == 45 then Some Minus else None)))))))
 
 abbrev pub first_sign : List ℕ → Front
 first_sign [] = None
@@ -96,7 +96,7 @@ first_sign (b ∷ bs) = one_sign b >>= λ s. Some (Punctuator s, bs)
 
 unfoldable pub sign_front : List ℕ → Front
 sign_front text = if starts_with nat_eq text (codes "//@") then Some (Punctuator Annotation, drop 3 text)
-  else (if starts_with nat_eq text (codes "==") then Some (Punctuator Equal, drop 2 text) else first_sign text)
+    else (if starts_with nat_eq text (codes "==") then Some (Punctuator Equal, drop 2 text) else first_sign text)
 
 unfoldable pub front_of : List ℕ → Front
 front_of [] = None
@@ -173,14 +173,14 @@ Statement = CoreStep × Names
 
 unfoldable pub declaration_at : Names → ℕ → Spot → Read Statement
 declaration_at names next s = word_at s >>= λ w. if is_keyword w.0.0 then None else (if is_some (local_of names w.0.0) then None
-  else (value_at names w.1 >>= λ e. some (core_steps.Set (length names) e.0 next, names ++ w.0.0 ∷ []) e.1))
+    else (value_at names w.1 >>= λ e. some (core_steps.Set (length names) e.0 next, names ++ w.0.0 ∷ []) e.1))
 
 unfoldable pub assignment_at : Names → ℕ → List ℕ → Spot → Read Statement
 assignment_at names next w s = if is_keyword w then None else (local_of names w >>= λ k. value_at names s >>= λ e. some (core_steps.Set k e.0 next, names) e.1)
 
 unfoldable pub statement_at : Names → ℕ → Spot → Read Statement
 statement_at names next s = word_at s >>= λ w. if bytes_eq w.0.0 (codes "return") then (sum_at names w.1 >>= λ e. some (core_steps.Return e.0, names) e.1)
-  else (if bytes_eq w.0.0 (codes "int") then declaration_at names next w.1 else assignment_at names next w.0.0 w.1)
+    else (if bytes_eq w.0.0 (codes "int") then declaration_at names next w.1 else assignment_at names next w.0.0 w.1)
 
 abbrev pub is_return : CoreStep → Bool
 is_return (core_steps.Set local value next) = false
@@ -190,7 +190,7 @@ is_return (core_steps.Return value) = true
 unfoldable pub statements_at : ℕ → Names → ℕ → Spot → Read (List CoreStep × ℕ)
 statements_at zero names k s = None
 statements_at (suc n) names k s = statement_at names (k + 1) s >>= λ x. if is_return x.0.0 then some (x.0.0 ∷ [], length x.0.1) x.1
-  else (statements_at n x.0.1 (k + 1) x.1 >>= λ y. some (x.0.0 ∷ y.0.0, y.0.1) y.1)
+    else (statements_at n x.0.1 (k + 1) x.1 >>= λ y. some (x.0.0 ∷ y.0.0, y.0.1) y.1)
 
 -- ---- annotations and units
 
@@ -235,4 +235,4 @@ core_of path name before after steps count closing = record {
 
 unfoldable pub unit_at : List ℕ → Spot → Read Core
 unit_at path s = heading_at s >>= λ m. precondition_at m.1 >>= λ p. postcondition_at p.1 >>= λ q. block_at q.1 >>= λ b.
-  if list_all is_blank b.1.text then some (core_of path m.0 p.0 q.0 b.0.0.0 b.0.0.1 b.0.1) b.1 else None
+    if list_all is_blank b.1.text then some (core_of path m.0 p.0 q.0 b.0.0.0 b.0.0.1 b.0.1) b.1 else None

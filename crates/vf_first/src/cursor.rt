@@ -26,7 +26,9 @@ impl<'a> Model for Cursor<'a> {
 
     ghost view = { λ c. spot c.place c.left.now };
 
-    ghost invariant = { λ c. (c.place.line + length c.left.now < 2 ^ 32) × (c.place.column + length c.left.now < 2 ^ 32) };
+    // Each byte takes the place at most one line or one column further.
+    ghost invariant = { λ c. (c.place.line + length c.left.now < 2 ^ 32)
+        × (c.place.column + length c.left.now < 2 ^ 32) };
 }
 
 impl<'a> Cursor<'a> {

@@ -13,3 +13,6 @@ mod stop;
 mod token;
 
 pub use read::{one_reading, read_first};
+
+#[cfg(test)]
+mod tests;

@@ -100,7 +100,8 @@ impl<'a> Cursor<'a> {
         next: u32,
     ) -> Result<CoreStep, Stop>
         requires { length names.old < 2 ^ 32 }
-        ensures gives { Gives (λ step. (step, names.new)) result self.new (declaration_at names.old next self.old) }
+        ensures gives { Gives (λ step. (step, names.new)) result self.new
+            (declaration_at names.old next self.old) }
         ensures one_more { OnOk result (length names.new ≤ length names.old + 1) }
     {
         let (name, _) = self.word()?;
@@ -126,7 +127,8 @@ impl<'a> Cursor<'a> {
         name: &[u8],
     ) -> Result<CoreStep, Stop>
         requires { length names.now < 2 ^ 32 }
-        ensures { Gives (λ step. (step, names.now)) result self.new (assignment_at names.now next name.now self.old) }
+        ensures { Gives (λ step. (step, names.now)) result self.new
+            (assignment_at names.now next name.now self.old) }
     {
         if is_keyword(name) {
             return Err(Stop::Other);
@@ -147,7 +149,8 @@ impl<'a> Cursor<'a> {
         next: u32,
     ) -> Result<CoreStep, Stop>
         requires { length names.old < 2 ^ 32 }
-        ensures gives { Gives (λ step. (step, names.new)) result self.new (statement_at names.old next self.old) }
+        ensures gives { Gives (λ step. (step, names.new)) result self.new
+            (statement_at names.old next self.old) }
         ensures one_more { OnOk result (length names.new ≤ length names.old + 1) }
     {
         let (word, _) = self.word()?;
@@ -315,7 +318,8 @@ fn core(
     contract: Contract,
     block: Block,
 ) -> Result<Core, Memory>
-    ensures { IfOk result (λ c. c ≡ core_of path.now name contract.precondition contract.postcondition block.steps block.locals block.closing) }
+    ensures { IfOk result (λ c. c ≡ core_of path.now name contract.precondition
+        contract.postcondition block.steps block.locals block.closing) }
 {
     let Block {
         steps,
@@ -366,5 +370,4 @@ pub fn read_first(
 pub fn one_reading()
     ensures { (path : List ℕ) (file : ℕ) (bytes : List ℕ) (first second : Core)
         → Spells path file bytes first → Spells path file bytes second → first ≡ second }
-{
-}
+{}

@@ -1,7 +1,7 @@
-use Rattle.std.proofs.Common.{◌≡◌, ap, ◌∙◌, length}
+use Rattle.std.proofs.Common.{ap, ◌∙◌}
 use Rattle.std.proofs.lemmas.Result.{err_from_is_err_and}
 use Rattle.vf_first.specs.Reading.{links_at}
-use Rattle.vf_first.proofs.Loops.{with_links, links_go, links_stop, links_fail, links_out}
+use Rattle.vf_first.proofs.Loops.{links_go, links_stop, links_fail, links_out}
 use Rattle.vf_first.proofs.cursor.Cursor.links.Goals as goal
 
 pub returns-in_err-link : goal.returns-in_err-link

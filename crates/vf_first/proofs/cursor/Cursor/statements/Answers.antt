@@ -1,4 +1,4 @@
-use Rattle.std.proofs.Common.{◌≡◌, [], ap, ◌∙◌, sym, length, arith}
+use Rattle.std.proofs.Common.{[], ap, ◌∙◌, sym, arith}
 use Rattle.std.proofs.lemmas.Result.{err_from_is_err_and}
 use Rattle.vf_first.specs.Reading.{statements_at}
 use Rattle.vf_first.proofs.Loops.{steps_go, steps_stop, steps_fail, steps_out}
