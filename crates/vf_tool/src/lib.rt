@@ -6,6 +6,8 @@ mod lines;
 mod load;
 mod run;
 mod status;
+#[cfg(test)]
+mod tests;
 mod verdict;
 mod words;
 
