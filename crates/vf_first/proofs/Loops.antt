@@ -35,11 +35,10 @@ links_stop front n i names s mid total lt h so_far =
     let one : with_links front (links_at (n - i) names s) ≡ some front mid = rw (k, h) (ap (λ (ls : List Link). some ls mid) (append-nil front)) in
     sym so_far ∙ one
 
-pub links_fail : (e : Stop) (front : List Link) (n i : ℕ) (names : Names) (s : Spot) (total : Read (List Link)) → i < n → Fails e (link_at names s)
-    → with_links front (links_at (n - i) names s) ≡ total → Fails e total
+pub links_fail : (front : List Link) (n i : ℕ) (names : Names) (s : Spot) (total : Read (List Link)) → i < n → link_at names s ≡ None
+    → with_links front (links_at (n - i) names s) ≡ total → total ≡ None
 unfolding links_at
-links_fail stops.Memory front n i names s total lt h so_far = tt
-links_fail stops.Other front n i names s total lt h so_far =
+links_fail front n i names s total lt h so_far =
     let k : n - i ≡ suc (n - (i + 1)) = omega arith in
     let one : with_links front (links_at (n - i) names s) ≡ None = rw (k, h) refl in
     sym so_far ∙ one

@@ -47,6 +47,11 @@ abbrev pub Gives : {X Y : Type 0} → (X → Y) → Result X Stop → Spot → R
 Gives view (Ok x) spot read = read ≡ Some (view x, spot)
 Gives view (Err e) spot read = Fails e read
 
+-- the same where memory cannot run out
+abbrev pub Finds : {X Y : Type 0} → (X → Y) → Option X → Spot → Read Y → Type 0
+Finds view (Some x) spot read = read ≡ Some (view x, spot)
+Finds view None spot read = read ≡ None
+
 -- a token of the code without where it lies in memory
 abbrev pub lexeme_of : Token → Lexeme
 lexeme_of (tokens.Word w) = Word w.now

@@ -3,10 +3,9 @@
 ghost use Rattle.std.specs.Prelude.{◌≡◌, ◌<◌, ◌≤◌, ◌^◌, length};
 ghost use Rattle.std.specs.List.{list_all};
 ghost use Rattle.vf_first.specs.Lexemes.{spot, is_blank};
-ghost use Rattle.vf_first.specs.Reading.{Gives, lexeme_of, next_at, word_at, keyword_at, number_at, sign_at, first_sign_at};
+ghost use Rattle.vf_first.specs.Reading.{Finds, lexeme_of, next_at, word_at, keyword_at, number_at, sign_at, first_sign_at};
 
 use crate::front::{behind_gap, front, is_blank};
-use crate::stop::Stop;
 use crate::token::{Sign, Token};
 use std::marker::Model;
 use vf_base::Place;
@@ -70,77 +69,67 @@ impl<'a> Cursor<'a> {
 
     /// The next token, and its place.
     #[tactic(auto, unfolding(crate::specs::Reading::next_at))]
-    pub fn next(&mut self) -> Result<(Token<'a>, Place), Stop>
-        ensures { Gives (λ x. (lexeme_of x.0, x.1)) result self.new (next_at self.old) }
+    pub fn next(&mut self) -> Option<(Token<'a>, Place)>
+        ensures { Finds (λ x. (lexeme_of x.0, x.1)) result self.new (next_at self.old) }
     {
         let (text, place) = behind_gap(self.left, self.place);
-        let Some((token, rest)) = front(text) else {
-            return Err(Stop::Other);
-        };
+        let (token, rest) = front(text)?;
         self.place = Place {
             file: place.file,
             line: place.line,
             column: place.column + (text.len() - rest.len()) as u32,
         };
         self.left = rest;
-        Ok((token, place))
+        Some((token, place))
     }
 
     /// A name or a keyword.
     #[tactic(auto, unfolding(crate::specs::Reading::word_at))]
-    pub fn word(&mut self) -> Result<(&'a [u8], Place), Stop>
-        ensures { Gives (λ x. (x.0.now, x.1)) result self.new (word_at self.old) }
+    pub fn word(&mut self) -> Option<(&'a [u8], Place)>
+        ensures { Finds (λ x. (x.0.now, x.1)) result self.new (word_at self.old) }
     {
         match self.next()? {
-            (Token::Word(word), place) => Ok((word, place)),
-            _ => Err(Stop::Other),
+            (Token::Word(word), place) => Some((word, place)),
+            _ => None,
         }
     }
 
     /// This word alone.
     #[tactic(auto, unfolding(crate::specs::Reading::keyword_at))]
-    pub fn keyword(&mut self, keyword: &[u8]) -> Result<Place, Stop>
-        ensures { Gives (λ p. p) result self.new (keyword_at keyword.now self.old) }
+    pub fn keyword(&mut self, keyword: &[u8]) -> Option<Place>
+        ensures { Finds (λ p. p) result self.new (keyword_at keyword.now self.old) }
     {
         let (word, place) = self.word()?;
-        if word == keyword {
-            Ok(place)
-        } else {
-            Err(Stop::Other)
-        }
+        if word == keyword { Some(place) } else { None }
     }
 
     #[tactic(auto, unfolding(crate::specs::Reading::number_at))]
-    pub fn number(&mut self) -> Result<u32, Stop>
-        ensures { Gives (λ n. n) result self.new (number_at self.old) }
+    pub fn number(&mut self) -> Option<u32>
+        ensures { Finds (λ n. n) result self.new (number_at self.old) }
     {
         match self.next()? {
-            (Token::Number(number), _) => Ok(number),
-            _ => Err(Stop::Other),
+            (Token::Number(number), _) => Some(number),
+            _ => None,
         }
     }
 
     #[tactic(auto, unfolding(crate::specs::Reading::sign_at))]
-    pub fn sign(&mut self, sign: Sign) -> Result<Place, Stop>
-        ensures { Gives (λ p. p) result self.new (sign_at sign self.old) }
+    pub fn sign(&mut self, sign: Sign) -> Option<Place>
+        ensures { Finds (λ p. p) result self.new (sign_at sign self.old) }
     {
         match self.next()? {
-            (Token::Punctuator(found), place) if found.number() == sign.number() => Ok(place),
-            _ => Err(Stop::Other),
+            (Token::Punctuator(found), place) if found.number() == sign.number() => Some(place),
+            _ => None,
         }
     }
 
     /// A sign that begins its line.
     #[tactic(auto, unfolding(crate::specs::Reading::first_sign_at))]
-    pub fn first_sign(&mut self, sign: Sign) -> Result<Place, Stop>
-        ensures { Gives (λ p. p) result self.new (first_sign_at sign self.old) }
+    pub fn first_sign(&mut self, sign: Sign) -> Option<Place>
+        ensures { Finds (λ p. p) result self.new (first_sign_at sign self.old) }
     {
         let line = self.line();
         let place = self.sign(sign)?;
-        if line < place.line {
-            Ok(place)
-        } else {
-            Err(Stop::Other)
-        }
+        if line < place.line { Some(place) } else { None }
     }
 }

@@ -5,7 +5,7 @@ ghost use Rattle.vf_base.specs.declared.place.Place.{Place};
 ghost use Rattle.vf_tree.specs.declared.unit.Core.{Core};
 ghost use Rattle.vf_tree.specs.declared.unit.Function.{Function};
 ghost use Rattle.vf_first.specs.FirstForm.{Spells};
-ghost use Rattle.vf_first.specs.Reading.{Gives, operand_at, link_at, links_at, sum_at, value_at, declaration_at, assignment_at, statement_at, statements_at, is_return, opening_at, ending_at, precondition_at, content_at, result_at, postcondition_at, heading_at, block_at, unit_at, core_of};
+ghost use Rattle.vf_first.specs.Reading.{Gives, Finds, operand_at, link_at, links_at, sum_at, value_at, declaration_at, assignment_at, statement_at, statements_at, is_return, opening_at, ending_at, precondition_at, content_at, result_at, postcondition_at, heading_at, block_at, unit_at, core_of};
 
 use crate::cursor::Cursor;
 use crate::names::{is_keyword, local_of};
@@ -22,35 +22,35 @@ const MOST_BYTES: usize = 1_048_576;
 
 impl<'a> Cursor<'a> {
     #[tactic(auto, unfolding(crate::specs::Reading::operand_at))]
-    fn operand(&mut self, names: &Sequence<Text>) -> Result<Operand, Stop>
+    fn operand(&mut self, names: &Sequence<Text>) -> Option<Operand>
         requires { length names.now < 2 ^ 32 }
-        ensures { Gives (λ x. x) result self.new (operand_at names.now self.old) }
+        ensures { Finds (λ x. x) result self.new (operand_at names.now self.old) }
     {
         match self.next()? {
-            (Token::Number(number), _) => Ok(Operand::Number(i128::from(number))),
-            (Token::Word(name), place) => match local_of(names, name) {
-                Some(local) => Ok(Operand::Local { local, place }),
-                None => Err(Stop::Other),
-            },
-            _ => Err(Stop::Other),
+            (Token::Number(number), _) => Some(Operand::Number(i128::from(number))),
+            (Token::Word(name), place) => {
+                let local = local_of(names, name)?;
+                Some(Operand::Local { local, place })
+            }
+            _ => None,
         }
     }
 
-    /// An operator and its right operand, or nothing where the sum ends.
+    /// An operator and its right operand, or `Some(None)` at the semicolon that ends a sum.
     #[tactic(auto, unfolding(crate::specs::Reading::link_at))]
-    fn link(&mut self, names: &Sequence<Text>) -> Result<Option<Link>, Stop>
+    fn link(&mut self, names: &Sequence<Text>) -> Option<Option<Link>>
         requires { length names.now < 2 ^ 32 }
-        ensures { Gives (λ x. x) result self.new (link_at names.now self.old) }
+        ensures { Finds (λ x. x) result self.new (link_at names.now self.old) }
     {
         let (token, place) = self.next()?;
         let operator = match token {
             Token::Punctuator(Sign::Plus) => Operator::Add,
             Token::Punctuator(Sign::Minus) => Operator::Subtract,
-            Token::Punctuator(Sign::Semicolon) => return Ok(None),
-            _ => return Err(Stop::Other),
+            Token::Punctuator(Sign::Semicolon) => return Some(None),
+            _ => return None,
         };
         let operand = self.operand(names)?;
-        Ok(Some(Link {
+        Some(Some(Link {
             operator,
             place,
             operand,
@@ -64,10 +64,11 @@ impl<'a> Cursor<'a> {
     {
         let mut links = Sequence::new(alloc);
         for _ in 0..self.len() {
-            let Some(link) = self.link(names)? else {
-                return Ok(links);
-            };
-            links.push(link)?;
+            match self.link(names) {
+                None => return Err(Stop::Other),
+                Some(None) => return Ok(links),
+                Some(Some(link)) => links.push(link)?,
+            }
         }
         Err(Stop::Other)
     }
@@ -77,7 +78,7 @@ impl<'a> Cursor<'a> {
         requires { length names.now < 2 ^ 32 }
         ensures { Gives (λ x. x) result self.new (sum_at names.now self.old) }
     {
-        let first = self.operand(names)?;
+        let first = self.operand(names).ok_or(Stop::Other)?;
         let rest = self.links(alloc, names)?;
         Ok(Expression { first, rest })
     }
@@ -87,7 +88,7 @@ impl<'a> Cursor<'a> {
         requires { length names.now < 2 ^ 32 }
         ensures { Gives (λ x. x) result self.new (value_at names.now self.old) }
     {
-        self.sign(Sign::Becomes)?;
+        self.sign(Sign::Becomes).ok_or(Stop::Other)?;
         self.sum(alloc, names)
     }
 
@@ -104,7 +105,7 @@ impl<'a> Cursor<'a> {
             (declaration_at names.old next self.old) }
         ensures one_more { OnOk result (length names.new ≤ length names.old + 1) }
     {
-        let (name, _) = self.word()?;
+        let (name, _) = self.word().ok_or(Stop::Other)?;
         if is_keyword(name) {
             return Err(Stop::Other);
         }
@@ -153,7 +154,7 @@ impl<'a> Cursor<'a> {
             (statement_at names.old next self.old) }
         ensures one_more { OnOk result (length names.new ≤ length names.old + 1) }
     {
-        let (word, _) = self.word()?;
+        let (word, _) = self.word().ok_or(Stop::Other)?;
         if word == b"return".as_slice() {
             let value = self.sum(alloc, names)?;
             return Ok(CoreStep::Return { value });
@@ -165,79 +166,75 @@ impl<'a> Cursor<'a> {
     }
 
     #[tactic(auto, unfolding(crate::specs::Reading::opening_at))]
-    fn opening(&mut self, word: &[u8]) -> Result<u32, Stop>
-        ensures { Gives (λ line. line) result self.new (opening_at word.now self.old) }
+    fn opening(&mut self, word: &[u8]) -> Option<u32>
+        ensures { Finds (λ line. line) result self.new (opening_at word.now self.old) }
     {
         let place = self.first_sign(Sign::Annotation)?;
         self.keyword(word)?;
-        Ok(place.line)
+        Some(place.line)
     }
 
     #[tactic(auto, unfolding(crate::specs::Reading::ending_at))]
-    fn ending(&mut self, line: u32) -> Result<u32, Stop>
-        ensures { Gives (λ l. l) result self.new (ending_at line self.old) }
+    fn ending(&mut self, line: u32) -> Option<u32>
+        ensures { Finds (λ l. l) result self.new (ending_at line self.old) }
     {
         let place = self.sign(Sign::Semicolon)?;
-        if place.line == line {
-            Ok(line)
-        } else {
-            Err(Stop::Other)
-        }
+        if place.line == line { Some(line) } else { None }
     }
 
     #[tactic(auto, unfolding(crate::specs::Reading::precondition_at))]
-    fn precondition(&mut self) -> Result<Pure, Stop>
-        ensures { Gives (λ p. p) result self.new (precondition_at self.old) }
+    fn precondition(&mut self) -> Option<Pure>
+        ensures { Finds (λ p. p) result self.new (precondition_at self.old) }
     {
         let line = self.opening(b"requires")?;
         let place = self.keyword(b"true")?;
         self.ending(line)?;
-        Ok(Pure::True { place })
+        Some(Pure::True { place })
     }
 
     #[tactic(auto, unfolding(crate::specs::Reading::result_at))]
-    fn result_is(&mut self, place: Place) -> Result<Pure, Stop>
-        ensures { Gives (λ p. p) result self.new (result_at place self.old) }
+    fn result_is(&mut self, place: Place) -> Option<Pure>
+        ensures { Finds (λ p. p) result self.new (result_at place self.old) }
     {
         self.sign(Sign::Equal)?;
         let number = i128::from(self.number()?);
-        Ok(Pure::ResultIs { number, place })
+        Some(Pure::ResultIs { number, place })
     }
 
     #[tactic(auto, unfolding(crate::specs::Reading::content_at))]
-    fn content(&mut self) -> Result<Pure, Stop>
-        ensures { Gives (λ p. p) result self.new (content_at self.old) }
+    fn content(&mut self) -> Option<Pure>
+        ensures { Finds (λ p. p) result self.new (content_at self.old) }
     {
         let (word, place) = self.word()?;
         if word == b"true".as_slice() {
-            return Ok(Pure::True { place });
+            return Some(Pure::True { place });
         }
         if word == b"result".as_slice() {
             return self.result_is(place);
         }
-        Err(Stop::Other)
+        None
     }
 
     #[tactic(auto, unfolding(crate::specs::Reading::postcondition_at))]
-    fn postcondition(&mut self) -> Result<Pure, Stop>
-        ensures { Gives (λ p. p) result self.new (postcondition_at self.old) }
+    fn postcondition(&mut self) -> Option<Pure>
+        ensures { Finds (λ p. p) result self.new (postcondition_at self.old) }
     {
         let line = self.opening(b"ensures")?;
         let content = self.content()?;
         self.ending(line)?;
-        Ok(content)
+        Some(content)
     }
 
     /// `int main()`, and the place of the name.
     #[tactic(auto, unfolding(crate::specs::Reading::heading_at))]
-    fn heading(&mut self) -> Result<Place, Stop>
-        ensures { Gives (λ p. p) result self.new (heading_at self.old) }
+    fn heading(&mut self) -> Option<Place>
+        ensures { Finds (λ p. p) result self.new (heading_at self.old) }
     {
         self.keyword(b"int")?;
         let name = self.keyword(b"main")?;
         self.sign(Sign::Open)?;
         self.sign(Sign::Close)?;
-        Ok(name)
+        Some(name)
     }
 
     /// The statements up to the return, and how many locals they declare. Each turn takes bytes of
@@ -264,9 +261,9 @@ impl<'a> Cursor<'a> {
     fn block(&mut self, alloc: Global) -> Result<Block, Stop>
         ensures { Gives (λ b. ((b.steps, b.locals), b.closing)) result self.new (block_at self.old) }
     {
-        self.first_sign(Sign::OpenBrace)?;
+        self.first_sign(Sign::OpenBrace).ok_or(Stop::Other)?;
         let (steps, locals) = self.statements(alloc)?;
-        let closing = self.sign(Sign::CloseBrace)?;
+        let closing = self.sign(Sign::CloseBrace).ok_or(Stop::Other)?;
         Ok(Block {
             steps,
             locals,
@@ -278,9 +275,9 @@ impl<'a> Cursor<'a> {
     fn unit(&mut self, alloc: Global, path: &str) -> Result<Core, Stop>
         ensures { Gives (λ c. c) result self.new (unit_at path.now self.old) }
     {
-        let name = self.heading()?;
-        let precondition = self.precondition()?;
-        let postcondition = self.postcondition()?;
+        let name = self.heading().ok_or(Stop::Other)?;
+        let precondition = self.precondition().ok_or(Stop::Other)?;
+        let postcondition = self.postcondition().ok_or(Stop::Other)?;
         let block = self.block(alloc)?;
         if !self.is_at_end() {
             return Err(Stop::Other);
