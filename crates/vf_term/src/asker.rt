@@ -76,8 +76,10 @@ pub trait Asker {
     ghost use Rattle.vf_term.specs.Literals.{IsWellSorted};
     ghost use Rattle.vf_term.specs.Question.{has_too_many_terms};
 
+    // what it has begun, taken and answered
     ghost journal: { Self → Journal };
 
+    // how many entries the journal held when the asker was made; no call changes it
     ghost origin: { Self → ℕ };
 
     /// Begins the next unit, counted from 0, with a copy of its definitions, and answers the root.
