@@ -97,8 +97,10 @@ pub trait Asker {
         requires there { HasNode (journal self.old) at }
         requires sorted { IsWellSorted fact.now }
         ensures pushed { OnOk result (HasPushed at fact.now (journal self.old) (journal self.new)) }
-        ensures node { IfOk result (λ node. node.number ≡ length (journal self.old).trail.facts + 1) }
-        ensures full { IsErrOf result AskFault.Full ↔ (MOST_FACTS ≤ length (journal self.old).trail.facts) }
+        ensures node { IfOk result
+            (λ node. node.number ≡ length (journal self.old).trail.facts + 1) }
+        ensures full { IsErrOf result AskFault.Full
+            ↔ (MOST_FACTS ≤ length (journal self.old).trail.facts) }
         ensures never_terms { IsErrOf result AskFault.Terms → ⊥ }
         ensures unchanged { OnErr result (IsAsBefore (journal self.old) (journal self.new)) }
         ensures origin { origin self.new ≡ origin self.old };
@@ -108,9 +110,14 @@ pub trait Asker {
         requires begun { 0 < length (journal self.old).units }
         requires there { HasNode (journal self.old) at }
         requires sorted { IsWellSorted goal.now }
-        ensures asked { IfOk result (λ answer. HasAsked at goal.now answer (journal self.old) (journal self.new)) }
-        ensures terms { IsErrOf result AskFault.Terms → IsTrue (has_too_many_terms (path_at (journal self.old) at) goal.now) }
-        ensures few { OnOk result (IsTrue (has_too_many_terms (path_at (journal self.old) at) goal.now) → ⊥) }
+        ensures asked { IfOk result
+            (λ answer. HasAsked at goal.now answer (journal self.old) (journal self.new)) }
+
+        // A question of too many terms is never answered; Memory may come first.
+        ensures terms { IsErrOf result AskFault.Terms
+            → IsTrue (has_too_many_terms (path_at (journal self.old) at) goal.now) }
+        ensures few { OnOk result
+            (IsTrue (has_too_many_terms (path_at (journal self.old) at) goal.now) → ⊥) }
         ensures never_full { IsErrOf result AskFault.Full → ⊥ }
         ensures unchanged { OnErr result (IsAsBefore (journal self.old) (journal self.new)) }
         ensures origin { origin self.new ≡ origin self.old };
