@@ -10,10 +10,13 @@ use Rattle.vf_term.specs.Term.{TermTree, Number, Truth}
 use Rattle.vf_term.specs.Literals.{IsWellSorted}
 use Rattle.vf_term.specs.declared.literal.Literal.{Literal}
 use Rattle.vf_term.specs.declared.literal.Literal.TheVariants.{Equal, NotEqual, AtMost, Difference, NotDifference, False}
+use Rattle.vf_term.specs.declared.answers.Answer.{Answer}
+use Rattle.vf_term.specs.declared.answers.Answer.TheVariants.{Proved, Unknown}
 use Rattle.vf_term.specs.Closure.{denied, Arises, arises, Same, given, same_self, Bound, most, difference_up, difference_down, weaker, chain, number_up, number_down, Conflict, below_itself, two_numbers, two_truths, denied_equality, denied_difference, falsehood, IsRefuted}
 use Rattle.vf_term.specs.Right.{value_of, Holds, Meets}
 use Rattle.vf_term.proofs.Sound.{no_conflict, meets_both, decided}
 use Rattle.vf_prover.specs.Decision.{no_symbols}
+use Rattle.vf_prover.specs.Laws.{AnswersDecideGoals}
 
 -- the first and the second of two terms stand in their list
 first_of : {A : Type 0} (a b : A) → Contains (a ∷ b ∷ []) a
@@ -114,3 +117,13 @@ not_refuted path goal m f r =
 -- a fact above the goal that does not hold refutes the question
 pub unmet_fact : (path : List Literal) (goal l : Literal) → IsWellSorted l → Contains path l → (Holds l no_symbols → ⊥) → IsRefuted path goal
 unmet_fact path goal l s h f = unmet (path ++ denied goal) l s (Contains-append_left path (denied goal) l h) f
+
+proved_or_unknown : (a : Answer) → (a ≡ Proved) ⊎ (a ≡ Unknown)
+proved_or_unknown Proved = inl refl
+proved_or_unknown Unknown = inr refl
+
+pub answers_decide : AnswersDecideGoals
+answers_decide e s m r = (
+  λ p. r.proved p no_symbols m,
+  λ h. elim (proved_or_unknown e.answer) [ inl p ↦ p | inr u ↦ absurd (r.unknown u (met_goal e.path e.goal s h)) ],
+)

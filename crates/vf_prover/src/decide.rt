@@ -19,9 +19,12 @@ pub fn decide(trail: &Trail<Literal>, at: Node, goal: &Literal) -> Result<Answer
     requires there { at.number ≤ length trail.now.facts }
     requires facts_sorted { AreWellSorted trail.now.facts }
     requires sorted { IsWellSorted goal.now }
-    ensures right { IfOk result (λ answer. IsRightAnswer (path_of trail.now.facts at.number) goal.now answer) }
-    ensures terms { IsErrOf result AskFault.Terms → IsTrue (has_too_many_terms (path_of trail.now.facts at.number) goal.now) }
-    ensures few { OnOk result (IsTrue (has_too_many_terms (path_of trail.now.facts at.number) goal.now) → ⊥) }
+    ensures right { IfOk result
+        (λ answer. IsRightAnswer (path_of trail.now.facts at.number) goal.now answer) }
+    ensures terms { IsErrOf result AskFault.Terms
+        → IsTrue (has_too_many_terms (path_of trail.now.facts at.number) goal.now) }
+    ensures few { OnOk result
+        (IsTrue (has_too_many_terms (path_of trail.now.facts at.number) goal.now) → ⊥) }
     ensures never_full { IsErrOf result AskFault.Full → ⊥ }
 {
     let refuted = is_refuted(trail, at, goal)?;
@@ -36,9 +39,12 @@ fn is_refuted(trail: &Trail<Literal>, at: Node, goal: &Literal) -> Result<bool, 
     requires there { at.number ≤ length trail.now.facts }
     requires facts_sorted { AreWellSorted trail.now.facts }
     requires sorted { IsWellSorted goal.now }
-    ensures tells { IfOk result (λ refuted. Tells (path_of trail.now.facts at.number) goal.now refuted) }
-    ensures terms { IsErrOf result AskFault.Terms → IsTrue (has_too_many_terms (path_of trail.now.facts at.number) goal.now) }
-    ensures few { OnOk result (IsTrue (has_too_many_terms (path_of trail.now.facts at.number) goal.now) → ⊥) }
+    ensures tells { IfOk result
+        (λ refuted. Tells (path_of trail.now.facts at.number) goal.now refuted) }
+    ensures terms { IsErrOf result AskFault.Terms
+        → IsTrue (has_too_many_terms (path_of trail.now.facts at.number) goal.now) }
+    ensures few { OnOk result
+        (IsTrue (has_too_many_terms (path_of trail.now.facts at.number) goal.now) → ⊥) }
     ensures never_full { IsErrOf result AskFault.Full → ⊥ }
 {
     let mut terms = Sequence::new(trail.allocator());

@@ -6,8 +6,10 @@
 #![tactic(auto)]
 
 mod decide;
+mod laws;
 mod met;
 mod prover;
 mod terms;
 
+pub use laws::answers_decide_goals;
 pub use prover::Prover;

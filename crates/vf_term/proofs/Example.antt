@@ -1,5 +1,5 @@
 -- Worked examples: what is asked of 3 + 4 for it to fit an int, and the terms of a question.
-use Rattle.std.proofs.Common.{◌≡◌, ℕ, List, [], ◌∷◌, length, refl, Bool, true, false}
+use Rattle.std.proofs.Common.{◌≡◌, [], ◌∷◌, refl, true, false}
 use Rattle.std.specs.Prelude.{pos, negsuc}
 use Rattle.vf_term.specs.declared.literal.Literal.TheVariants.{Equal, AtMost, Difference, False}
 use Rattle.vf_term.specs.Term.{Number, Truth}

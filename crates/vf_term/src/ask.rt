@@ -12,7 +12,7 @@ use vf_base::{Place, Refusal, Rule, RuleFault, Shown};
 use vf_trail::Node;
 
 /// Whether the goal is proved from the facts of a node's path. A question that has too many terms is
-/// refused by rule 42 at the place.
+/// refused by [`Rule::Terms`] at the place.
 #[tactic(auto, using(crate::proofs::Following::asking))]
 pub fn holds<A: Asker>(
     asker: &mut A,
@@ -23,7 +23,9 @@ pub fn holds<A: Asker>(
     requires begun { 0 < length (A.journal asker.old).units }
     requires there { HasNode (A.journal asker.old) at }
     requires sorted { IsWellSorted goal.now }
-    ensures says { Says (asked place (path_at (A.journal asker.old) at) goal.now) (λ yes. yes) (seen (A.journal asker.old)) (seen (A.journal asker.new)) result }
+    ensures says { Says (asked place (path_at (A.journal asker.old) at) goal.now)
+        (λ yes. yes)
+        (seen (A.journal asker.old)) (seen (A.journal asker.new)) result }
     ensures grew { Grew (A.journal asker.old) (A.journal asker.new) }
     ensures origin { A.origin asker.new ≡ A.origin asker.old }
 {
@@ -40,7 +42,7 @@ pub fn holds<A: Asker>(
     }
 }
 
-/// Hangs a fact on a node. Where the trail is full it is refused by rule 41 at the place.
+/// Hangs a fact on a node. Where the trail is full it is refused by [`Rule::Paths`] at the place.
 #[tactic(auto, using(crate::proofs::Following::noting))]
 pub fn note<A: Asker>(
     asker: &mut A,
@@ -51,7 +53,9 @@ pub fn note<A: Asker>(
     requires begun { 0 < length (A.journal asker.old).units }
     requires there { HasNode (A.journal asker.old) at }
     requires sorted { IsWellSorted fact.now }
-    ensures says { Says (pushed place (path_at (A.journal asker.old) at) fact.now) (λ node. path_at (A.journal asker.new) node) (seen (A.journal asker.old)) (seen (A.journal asker.new)) result }
+    ensures says { Says (pushed place (path_at (A.journal asker.old) at) fact.now)
+        (λ node. path_at (A.journal asker.new) node)
+        (seen (A.journal asker.old)) (seen (A.journal asker.new)) result }
     ensures node { IfOk result (λ node. HasNode (A.journal asker.new) node) }
     ensures grew { Grew (A.journal asker.old) (A.journal asker.new) }
     ensures origin { A.origin asker.new ≡ A.origin asker.old }

@@ -76,8 +76,10 @@ pub trait Asker {
     ghost use Rattle.vf_term.specs.Literals.{IsWellSorted};
     ghost use Rattle.vf_term.specs.Question.{has_too_many_terms};
 
+    // what it has begun, taken and answered
     ghost journal: { Self → Journal };
 
+    // how many entries the journal held when the asker was made; no call changes it
     ghost origin: { Self → ℕ };
 
     /// Begins the next unit, counted from 0, with a copy of its definitions, and answers the root.
@@ -95,8 +97,10 @@ pub trait Asker {
         requires there { HasNode (journal self.old) at }
         requires sorted { IsWellSorted fact.now }
         ensures pushed { OnOk result (HasPushed at fact.now (journal self.old) (journal self.new)) }
-        ensures node { IfOk result (λ node. node.number ≡ length (journal self.old).trail.facts + 1) }
-        ensures full { IsErrOf result AskFault.Full ↔ (MOST_FACTS ≤ length (journal self.old).trail.facts) }
+        ensures node { IfOk result
+            (λ node. node.number ≡ length (journal self.old).trail.facts + 1) }
+        ensures full { IsErrOf result AskFault.Full
+            ↔ (MOST_FACTS ≤ length (journal self.old).trail.facts) }
         ensures never_terms { IsErrOf result AskFault.Terms → ⊥ }
         ensures unchanged { OnErr result (IsAsBefore (journal self.old) (journal self.new)) }
         ensures origin { origin self.new ≡ origin self.old };
@@ -106,9 +110,14 @@ pub trait Asker {
         requires begun { 0 < length (journal self.old).units }
         requires there { HasNode (journal self.old) at }
         requires sorted { IsWellSorted goal.now }
-        ensures asked { IfOk result (λ answer. HasAsked at goal.now answer (journal self.old) (journal self.new)) }
-        ensures terms { IsErrOf result AskFault.Terms → IsTrue (has_too_many_terms (path_at (journal self.old) at) goal.now) }
-        ensures few { OnOk result (IsTrue (has_too_many_terms (path_at (journal self.old) at) goal.now) → ⊥) }
+        ensures asked { IfOk result
+            (λ answer. HasAsked at goal.now answer (journal self.old) (journal self.new)) }
+
+        // A question of too many terms is never answered; Memory may come first.
+        ensures terms { IsErrOf result AskFault.Terms
+            → IsTrue (has_too_many_terms (path_at (journal self.old) at) goal.now) }
+        ensures few { OnOk result
+            (IsTrue (has_too_many_terms (path_at (journal self.old) at) goal.now) → ⊥) }
         ensures never_full { IsErrOf result AskFault.Full → ⊥ }
         ensures unchanged { OnErr result (IsAsBefore (journal self.old) (journal self.new)) }
         ensures origin { origin self.new ≡ origin self.old };

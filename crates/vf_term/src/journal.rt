@@ -20,7 +20,9 @@ pub type DefinitionsList = Sequence<Definitions>;
 
 impl Definitions {
     /// No definitions.
-    pub fn new() -> Definitions {
+    pub fn new() -> Definitions
+        ensures { result ≡ record {} }
+    {
         Definitions {}
     }
 
@@ -128,6 +130,10 @@ impl Journal {
 #[cfg(test)]
 mod tests {
     use super::*;
+    use crate::laws::{
+        courses_are_determined, courses_only_append, refutations_are_sound,
+        right_courses_are_determined,
+    };
     use std::test::Fail;
 
     #[tactic(auto, using(crate::proofs::Seeing::pushed_node), unfolding(crate::specs::Journal::HasNode))]
@@ -145,6 +151,10 @@ mod tests {
         assert_eq!(rt; entry.unit, 0);
         assert_eq!(rt; entry.at.number, 1);
         assert!(rt; matches!(entry.goal, Literal::False) && entry.answer == Answer::Unknown);
+        courses_only_append::<bool>();
+        courses_are_determined::<bool>();
+        right_courses_are_determined::<bool>();
+        refutations_are_sound();
         Ok(())
     }
 }

@@ -58,10 +58,11 @@ impl<L> Model for Trail<L> {
     ghost use Rattle.std.specs.Prelude.{◌-◌, ◌≤◌, length};
     ghost use Rattle.std.specs.Vec.{vec_capacity, vec_len};
     ghost use Rattle.vf_trail.specs.Falls.{ParentsFall};
+    ghost use Rattle.vf_trail.specs.declared.trail.TheConstants.{MOST_FACTS};
 
     ghost view = { λ t. record { facts = t.rows.items; spare = vec_capacity t.rows - vec_len t.rows } };
 
-    ghost invariant = { λ t. ParentsFall t.rows.items × (length t.rows.items ≤ 4194304) };
+    ghost invariant = { λ t. ParentsFall t.rows.items × (length t.rows.items ≤ MOST_FACTS) };
 }
 
 impl<L> Trail<L> {
@@ -147,6 +148,7 @@ impl<L: Drop> Trail<L> {
         ensures full { IsErrOf result TrailFault.Full ↔ (MOST_FACTS ≤ length self.old.facts) }
         ensures memory { IsErrOf result TrailFault.Memory → self.old.spare ≡ 0 }
         ensures spare { self.old.spare ≤ self.new.spare + 1 }
+        ensures kept { OnErr result (self.old.spare ≤ self.new.spare) }
     {
         let count = self.rows.len();
         if count >= MOST_FACTS {

@@ -3,6 +3,7 @@
 ghost use Rattle.vf_term.specs.Literals.{IsWellSorted};
 
 use super::Prover;
+use crate::laws::answers_decide_goals;
 use std::alloc::Global;
 use std::test::Fail;
 use vf_base::{Place, Rule, RuleFault};
@@ -50,6 +51,7 @@ fn goals_over_numbers_are_decided(rt: HostRuntime) -> Result<(), Fail> {
         assert_eq!(rt; answer_to(rt.alloc(), &good, &same)?, equal, "{a} == {b}");
         assert!(rt; answer_to(rt.alloc(), &bad, &bound)?);
     }
+    answers_decide_goals();
     assert!(rt; !answer_to(rt.alloc(), &good, &bad)?);
     assert!(rt; !answer_to(rt.alloc(), &good, &Literal::False)?);
     assert!(rt; answer_to(rt.alloc(), &Literal::False, &bad)?);
