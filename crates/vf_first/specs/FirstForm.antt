@@ -1,4 +1,4 @@
--- The grammar of the first form: which text has which core. Each production goes from one spot of the text to another.
+-- The grammar of the first form: which text has which core. A production `P x s t` says that the text from the spot s to the spot t spells x.
 use Rattle.std.specs.Prelude.{◌≡◌, ℕ, ◌+◌, ◌<◌, ◌≤◌, pos, false, List, [], ◌∷◌, ◌++◌, length, codes, Option, Some, None}
 use Rattle.std.specs.List.{position}
 use Rattle.std.specs.Str.{bytes_eq}
@@ -26,6 +26,7 @@ Names = List (List ℕ)
 abbrev pub local_of : Names → List ℕ → Option ℕ
 local_of names w = position (λ n. bytes_eq n w) names
 
+-- how an operator is written
 abbrev pub operator_sign : Operator → Sign
 operator_sign operators.Add = Plus
 operator_sign operators.Subtract = Minus

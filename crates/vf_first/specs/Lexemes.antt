@@ -52,6 +52,7 @@ IsLexeme (Word w) = IsWord w
 IsLexeme (Number n) = n ≤ 2147483647
 IsLexeme (Punctuator s) = Unit {0}
 
+-- `=` goes on with another one
 abbrev pub sign_goes_on : Sign → ℕ → Bool
 sign_goes_on Becomes b = b == 61
 sign_goes_on s b = false
@@ -71,6 +72,7 @@ ends t (b ∷ bs) = not (goes_on t b)
 abbrev pub is_blank : ℕ → Bool
 is_blank b = b == 32 || b == 10
 
+-- blanks and line feeds, or nothing
 abbrev pub IsGap : List ℕ → Type 0
 IsGap bs = AllByRecursion (λ b. is_blank b ≡ true) bs
 
@@ -82,6 +84,7 @@ right p n = record { file = p.file; line = p.line; column = p.column + n }
 abbrev pub place_behind : Place → ℕ → Place
 place_behind p b = if b == 10 then record { file = p.file; line = p.line + 1; column = 1 } else right p 1
 
+-- the place behind bytes
 abbrev pub place_after : Place → List ℕ → Place
 place_after p [] = p
 place_after p (b ∷ bs) = place_after (place_behind p b) bs
@@ -91,6 +94,7 @@ pub record Spot : Type 0 where
   pub place : Place
   pub text : List ℕ
 
+-- a spot of its parts
 abbrev pub spot : Place → List ℕ → Spot
 spot p text = record { place = p; text = text }
 
@@ -118,5 +122,6 @@ keywords = codes "any" ∷ codes "assert" ∷ codes "auto" ∷ codes "bool" ∷ 
     ∷ codes "struct" ∷ codes "switch" ∷ codes "this" ∷ codes "true" ∷ codes "typedef" ∷ codes "union"
     ∷ codes "unsigned" ∷ codes "void" ∷ codes "volatile" ∷ codes "while" ∷ []
 
+-- whether a word is no name
 unfoldable pub is_keyword : List ℕ → Bool
 is_keyword w = list_any (bytes_eq w) keywords

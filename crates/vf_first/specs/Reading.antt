@@ -27,17 +27,20 @@ use Rattle.vf_first.specs.declared.token.Token.TheVariants as tokens
 use Rattle.vf_first.specs.Lexemes.{Lexeme, Word, Number, Punctuator, Spot, is_letter, is_word_byte, is_blank, ends, right, place_behind, is_keyword}
 use Rattle.vf_first.specs.FirstForm.{Names, local_of}
 
+-- one reading after another
 infixl 10 ◌>>=◌
 abbrev pub ◌>>=◌ : {A B : Type 0} → Option A → (A → Option B) → Option B
 None >>= f = None
 (Some x) >>= f = f x
 
+-- what a reading gives
 abbrev pub Read : Type 0 → Type 0
 Read A = Option (A × Spot)
 
 abbrev pub some : {A : Type 0} → A → Spot → Read A
 some a s = Some (a, s)
 
+-- an error other than want of memory comes where reading gives nothing
 abbrev pub Fails : {Y : Type 0} → Stop → Option Y → Type 0
 Fails stops.Memory read = Unit {0}
 Fails stops.Other read = read ≡ None
