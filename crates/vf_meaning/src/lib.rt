@@ -1,0 +1,15 @@
+//! What annotations mean: fractions, values of ghost expressions, parts of memory, and when a part
+//! satisfies an assertion.
+//!
+//! The definitions stand in `specs/`, above those of the machine; the code here is public functions
+//! with an empty body, each of which has a law as its contract.
+#![tactic(auto)]
+
+mod fraction_laws;
+
+pub use fraction_laws::{
+    counts_in_units, form_is_one, halves_make_the_whole, nought_adds_nothing, order_is_by_sums,
+    order_is_total, order_is_transitive, product_associates, product_commutes, product_distributes,
+    reduces_to_its_value, stays_positive, sum_associates, sum_commutes, tells_order,
+    whole_scales_nothing,
+};
