@@ -6,10 +6,7 @@
 #![tactic(auto)]
 
 mod fraction_laws;
+mod value_laws;
 
-pub use fraction_laws::{
-    counts_in_units, form_is_one, halves_make_the_whole, nought_adds_nothing, order_is_by_sums,
-    order_is_total, order_is_transitive, product_associates, product_commutes, product_distributes,
-    reduces_to_its_value, stays_positive, sum_associates, sum_commutes, tells_order,
-    whole_scales_nothing,
-};
+pub use fraction_laws::{counts_in_units, form_is_one, halves_make_the_whole, nought_adds_nothing, order_is_by_sums, order_is_total, order_is_transitive, product_associates, product_commutes, product_distributes, reduces_to_its_value, stays_positive, sum_associates, sum_commutes, tells_order, whole_scales_nothing};
+pub use value_laws::{divides_by_nought, tells_names, tells_values, values_agree};
