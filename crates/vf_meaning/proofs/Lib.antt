@@ -1,3 +1,4 @@
 pub mod Fractions
 pub mod Values
+pub mod Parts
 mod Examples

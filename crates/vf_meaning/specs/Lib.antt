@@ -5,3 +5,10 @@ pub mod Valuations
 pub mod Names
 pub mod GhostValues
 pub mod ValueLaws
+pub mod Parts
+pub mod Fits
+pub mod PartLaws
+pub mod Assertions
+pub mod Sorts
+pub mod Chunks
+pub mod Satisfaction
