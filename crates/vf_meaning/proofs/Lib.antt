@@ -1,4 +1,6 @@
 pub mod Fractions
 pub mod Values
 pub mod Parts
+pub mod Satisfaction
+pub mod Growth
 mod Examples

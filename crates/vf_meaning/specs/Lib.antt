@@ -2,13 +2,15 @@ pub mod Fractions
 pub mod FractionLaws
 pub mod Ghost
 pub mod Valuations
-pub mod Names
 pub mod GhostValues
 pub mod ValueLaws
 pub mod Parts
 pub mod Fits
 pub mod PartLaws
 pub mod Assertions
+pub mod Names
 pub mod Sorts
 pub mod Chunks
 pub mod Satisfaction
+pub mod Environments
+pub mod SatisfactionLaws
