@@ -61,7 +61,7 @@ pub record ContractTree : Type 0 where
   pub requires_this : Assertion
   pub ensures_this : Assertion
 
--- All declarations by identity: constructors of datatypes, fixpoints (each before those that it names), which function's declaration claims which function type, predicates, bodies, and the contracts of functions and of function types
+-- All declarations by identity: constructors of datatypes, fixpoints (each before those that it names), which function's declaration claims which function type, predicates, bodies, the contracts of functions and of function types, and the function type of each call through a pointer, by the calling function and the number of its step
 pub record Environment : Type 0 where
   pub constructors : Identity → Option ConstructorTree
   pub fixpoints : List FixpointTree
@@ -70,3 +70,4 @@ pub record Environment : Type 0 where
   pub bodies : BodyName → Option BodyTree
   pub functions : Identity → Option ContractTree
   pub types : Identity → Option ContractTree
+  pub called : Identity → ℕ → Option Identity

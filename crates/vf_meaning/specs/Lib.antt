@@ -14,3 +14,5 @@ pub mod Chunks
 pub mod Satisfaction
 pub mod Environments
 pub mod SatisfactionLaws
+pub mod ShareOuts
+pub mod Kept
