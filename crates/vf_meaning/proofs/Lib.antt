@@ -4,3 +4,5 @@ pub mod Parts
 pub mod Satisfaction
 pub mod Growth
 mod Examples
+mod KeptExample
+mod MemoryExample
