@@ -1,5 +1,6 @@
 pub mod Fractions
 pub mod Values
+pub mod Structural
 pub mod Parts
 pub mod Satisfaction
 pub mod Growth

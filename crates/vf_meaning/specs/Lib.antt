@@ -4,6 +4,7 @@ pub mod Ghost
 pub mod Valuations
 pub mod GhostValues
 pub mod ValueLaws
+pub mod Structural
 pub mod Parts
 pub mod Fits
 pub mod PartLaws
