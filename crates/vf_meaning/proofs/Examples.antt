@@ -1,5 +1,5 @@
 -- Worked examples, by computation.
-use Rattle.std.proofs.Common.{◌≡◌, ℕ, true, false, [], ◌∷◌, pos, negsuc, refl}
+use Rattle.std.proofs.Common.{◌≡◌, false, [], ◌∷◌, pos, negsuc, refl}
 use Rattle.std.specs.Prelude.{codes}
 use Rattle.vf_tree.specs.Core.{Identity, Add, Divide, Remainder, Equal}
 use Rattle.vf_model.specs.Values.{Whole, Odd, Value, none, more}

@@ -1,8 +1,7 @@
 -- More declarations take nothing away, and valuations that agree on the names of an assertion satisfy it alike.
-use Rattle.std.proofs.Common.{◌≡◌, ℕ, zero, suc, Bool, true, false, cond, List, [], ◌∷◌, ◌++◌, map, Option, Some, None, slice_get, refl, sym, ap, ap₂, subst, ◌∙◌, ◌⊎◌, inl, inr, arith}
+use Rattle.std.proofs.Common.{◌≡◌, ℕ, zero, suc, cond, List, [], ◌∷◌, map, Option, Some, None, refl, sym, ap, ap₂, subst, ◌∙◌, inl, inr, arith}
 use Rattle.std.specs.Prelude.{Contains, IsTrue}
 use Rattle.std.specs.Bool.{MatchBool}
-use Rattle.vf_tree.specs.Core.{Identity}
 use Rattle.vf_model.specs.Values.{Dyadic, Value, Values, none, more, same_identity}
 use Rattle.vf_model.specs.Values as values
 use Rattle.vf_meaning.specs.Fractions.{product}
@@ -12,10 +11,10 @@ use Rattle.vf_meaning.specs.GhostValues.{Interpretation, value_of, interpreted}
 use Rattle.vf_meaning.specs.Assertions.{ShareTree, Times, Taken, PatternTree, Is, Names, Wild, Head, BlockOf, Named, Family, Applied, Assertion, Pure, Empty, Both, Choose, Switch, Cell, Chunk, Branches, no_branches, branch, BodyName, BodyTree, PredicateTree, Environment}
 use Rattle.vf_meaning.specs.Names.{UsesShare, UsesPattern, UsesPatterns, UsesHead, UsesIn, UsesBranch}
 use Rattle.vf_meaning.specs.Environments.{Extends}
-use Rattle.vf_meaning.specs.Sorts.{HasSort, HaveSorts, HaveFirst, AreOfSorts, ArgumentsAre, IsDatatypeOf, ParametersAre}
+use Rattle.vf_meaning.specs.Sorts.{HasSort, HaveSorts, HaveFirst, ArgumentsAre, IsDatatypeOf, ParametersAre}
 use Rattle.vf_meaning.specs.Parts.{Part}
-use Rattle.vf_meaning.specs.Chunks.{Wanted, Just, Anything, wanted, product_if, times_names, fraction_of, IsFieldCell}
-use Rattle.vf_meaning.specs.Satisfaction.{IsShare, SatisfiesFamily, SatisfiesValue, SatisfiesHead, SatisfiesBy, SatisfiesBranch, SatisfiesOf, SatisfiesIf, MeansAt, SatisfiesAt}
+use Rattle.vf_meaning.specs.Chunks.{Wanted, Just, wanted, product_if, times_names, fraction_of, IsFieldCell}
+use Rattle.vf_meaning.specs.Satisfaction.{SatisfiesFamily, SatisfiesValue, SatisfiesHead, SatisfiesBy, SatisfiesBranch, SatisfiesIf, MeansAt}
 use Rattle.vf_meaning.specs.SatisfactionLaws.{NamesAgree, DeclarationsGrow}
 use Rattle.vf_meaning.proofs.Values.{agreed}
 use Rattle.vf_meaning.proofs.Satisfaction.{match_map, satisfies_map}
@@ -129,13 +128,13 @@ module _ (M : Dyadic → BodyName → Values → Part → Type 0) (i : Interpret
       r.0,
       record { is = sym (share_agrees v w share (λ y u. h y (inl u))) ∙ (r.1).is; positive = (r.1).positive },
       subst (λ z. IsFieldCell (product s r.0) z f (wanted i w x) p) (agreed i v w e (λ y u. h y (inr (inl u))))
-      (subst (λ z. IsFieldCell (product s r.0) (value_of i v e) f z p) (pattern_agrees v w x (λ y u. h y (inr (inr u)))) r.2),
+          (subst (λ z. IsFieldCell (product s r.0) (value_of i v e) f z p) (pattern_agrees v w x (λ y u. h y (inr (inr u)))) r.2),
     )
     satisfies_agrees (Chunk share head xs) v w p h r = (
       r.0,
       record { is = sym (share_agrees v w share (λ y u. h y (inl u))) ∙ (r.1).is; positive = (r.1).positive },
       head_agrees (product s r.0) v w head (map (wanted i w) xs) p (λ y u. h y (inr (inl u)))
-      (subst (λ z. SatisfiesHead M i s (product s r.0) head v z p) (patterns_agree v w xs (λ y u. h y (inr (inr u)))) r.2),
+          (subst (λ z. SatisfiesHead M i s (product s r.0) head v z p) (patterns_agree v w xs (λ y u. h y (inr (inr u)))) r.2),
     )
 
     branch_agrees : (bs : Branches) (u : Value) (v w : Valuation) (p : Part) → ((y : Name) → UsesBranch bs y → v y ≡ w y) → SatisfiesBranch M i s bs u v p → SatisfiesBranch M i s bs u w p

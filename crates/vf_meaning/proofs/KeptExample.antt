@@ -1,5 +1,5 @@
 -- A run that keeps what it owes, and a predicate that nothing satisfies.
-use Rattle.std.proofs.Common.{◌≡◌, ℕ, zero, suc, ◌≤◌, Bool, true, false, List, [], ◌∷◌, ◌++◌, length, map, Option, Some, None, slice_get, pos, refl, sym, ap, subst, ◌∙◌, arith}
+use Rattle.std.proofs.Common.{◌≡◌, ℕ, zero, suc, true, false, List, [], ◌∷◌, ◌++◌, length, map, Option, Some, None, slice_get, pos, refl, sym, ap, subst, ◌∙◌}
 use Rattle.std.specs.Prelude.{codes}
 use Rattle.std.specs.List.{range_with_len}
 use Rattle.std.specs.Ordering.{nat_cmp}
@@ -11,18 +11,17 @@ use Rattle.vf_tree.specs.Core as core
 use Rattle.vf_model.specs.declared.words.Event.{Event}
 use Rattle.vf_model.specs.Values.{Dyadic, Value, none}
 use Rattle.vf_model.specs.Values as values
-use Rattle.vf_model.specs.Memory.{Memory, Block, Mutex, block_at}
+use Rattle.vf_model.specs.Memory.{Memory, Block, block_at}
 use Rattle.vf_model.specs.State.{Frame, State}
 use Rattle.vf_model.specs.Races.{next_touch}
-use Rattle.vf_model.specs.Runs.{opening}
 use Rattle.vf_meaning.specs.Fractions.{whole}
 use Rattle.vf_meaning.specs.Ghost.{Sort}
 use Rattle.vf_meaning.specs.Ghost as ghost
 use Rattle.vf_meaning.specs.Valuations.{Valuation}
-use Rattle.vf_meaning.specs.Assertions.{Pure, Chunk, Times, Named, BodyName, Plain, Instance, BodyTree, ContractTree, Environment}
-use Rattle.vf_meaning.specs.Parts.{Part, nothing, IsSum}
+use Rattle.vf_meaning.specs.Assertions.{Pure, Chunk, Times, Named, BodyName, ContractTree, Environment}
+use Rattle.vf_meaning.specs.Parts.{Part, nothing}
 use Rattle.vf_meaning.specs.Fits.{Fits}
-use Rattle.vf_meaning.specs.Satisfaction.{MeansAt, SatisfiesIf, SatisfiesAt, Satisfies}
+use Rattle.vf_meaning.specs.Satisfaction.{MeansAt, Satisfies}
 use Rattle.vf_meaning.specs.ShareOuts.{ShareOut, SumsTo, IsShareOut}
 use Rattle.vf_meaning.specs.Kept.{before, IsAt, Promise, CallsPointer, StartsThread, Kept}
 use Rattle.vf_meaning.proofs.Parts.{nothing_is_neutral, nothing_fits_empty}
@@ -128,8 +127,10 @@ only_returns zero f frame callers step h = stepped frame f step (first_frame h.f
   where
     first_frame : {x y : Frame} {xs ys : List Frame} → Some (x ∷ xs) ≡ Some (y ∷ ys) → x ≡ y
     first_frame e = cc
+
     some_same : {A : Type 0} {x y : A} → Some x ≡ Some y → x ≡ y
     some_same e = cc
+
     stepped : (frame : Frame) (f : FunctionTree) (step : StepTree) → record { function = 0; step = 0; locals = []; target = None } ≡ frame
         → slice_get program.functions frame.function ≡ Some f → slice_get f.steps frame.step ≡ Some step → step ≡ Return (Some (core.Number (pos 0)))
     stepped frame f step e g h =

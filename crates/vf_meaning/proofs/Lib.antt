@@ -4,6 +4,7 @@ pub mod Structural
 pub mod Parts
 pub mod Satisfaction
 pub mod Growth
+pub mod Joins
 mod Examples
 mod KeptExample
 mod MemoryExample

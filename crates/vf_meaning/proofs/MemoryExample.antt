@@ -1,5 +1,5 @@
 -- A memory of one struct with one field that holds 7: all of it satisfies `p->f |-> 7 &*& malloc_block_s(p)`, and so it fits.
-use Rattle.std.proofs.Common.{◌≡◌, ◌≢◌, ℕ, zero, suc, Bool, true, false, cond, ◌&&◌, ◌==◌, List, [], ◌∷◌, Option, Some, None, slice_get, pos, refl, sym, ap, subst, ◌∙◌, ◌⊎◌, inl, inr, ⊎_elim, arith}
+use Rattle.std.proofs.Common.{◌≡◌, ◌≢◌, ℕ, zero, suc, false, cond, [], ◌∷◌, Some, None, slice_get, pos, refl, sym, ap, subst, ◌∙◌, ◌⊎◌, inl, inr, arith}
 use Rattle.std.specs.Prelude.{codes}
 use Rattle.std.specs.Ordering.{nat_cmp, eq_by_cmp}
 use Rattle.std.specs.Cmp.{nat_cmp_total}
@@ -7,20 +7,19 @@ use Rattle.std.proofs.lemmas.Bool.{false≢true, cases_Bool, cases_eq}
 use Rattle.std.proofs.lemmas.Bool.Decides.{nat_tests}
 use Rattle.std.specs.Cmp.Lexicographic.{bytes_decides}
 use Rattle.std.specs.FinMap as finite
-use Rattle.vf_tree.specs.Core.{Identity, Field}
+use Rattle.vf_tree.specs.Core.{Identity}
 use Rattle.vf_model.specs.Values.{Value, Dyadic, same_identity}
 use Rattle.vf_model.specs.Values as values
 use Rattle.vf_model.specs.Memory.{Memory, Block, Struct, block_at}
-use Rattle.vf_meaning.specs.Fractions.{nought, whole, sum, IsPositive}
+use Rattle.vf_meaning.specs.Fractions.{nought, whole, IsPositive}
 use Rattle.vf_meaning.specs.Ghost.{Numbered}
 use Rattle.vf_meaning.specs.Ghost as ghost
 use Rattle.vf_meaning.specs.Valuations.{Valuation}
 use Rattle.vf_meaning.specs.Assertions.{Assertion, Both, Cell, Chunk, Times, Is, BlockOf, Environment}
-use Rattle.vf_meaning.specs.Parts.{Location, FieldCell, IndexCell, StructBlock, IntBlock, MutexAt, HeldAt, HandleAt, Content, CellOf, Bare, block_of, same_location, Part, nothing, single, ◌⊕◌, IsSum, HasNone, HasJust}
+use Rattle.vf_meaning.specs.Parts.{Location, FieldCell, IndexCell, StructBlock, IntBlock, MutexAt, HeldAt, HandleAt, Content, CellOf, Bare, block_of, same_location, Part, single, ◌⊕◌, IsSum, HasNone, HasJust}
 use Rattle.vf_meaning.specs.Fits.{cell_content, HasThere, FitsAt, Fits}
 use Rattle.vf_meaning.specs.Satisfaction.{Satisfies}
-use Rattle.vf_meaning.proofs.Fractions.{nought_adds_nothing}
-use Rattle.vf_meaning.proofs.Parts.{tells_locations, tells_contents, nought_or_positive, single_only, in_either}
+use Rattle.vf_meaning.proofs.Parts.{tells_locations, nought_or_positive, single_only, in_either}
 
 structure : Identity
 structure = codes "one.c#s"
@@ -115,6 +114,7 @@ of_cell = record {
   here = whole_cell;
   else = λ d other. nought_unless (all_part (FieldCell 1 structure 0) d) (λ x. elim (owned (FieldCell 1 structure 0) d x) [ inl y ↦ other y.1 | inr y ↦ kinds_differ y.0 ]);
 }
+
 of_block : HasJust all_part (StructBlock 1 structure) Bare whole
 of_block = record {
   here = whole_block;

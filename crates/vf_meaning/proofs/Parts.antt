@@ -7,11 +7,11 @@ use Rattle.std.specs.Cmp.Lexicographic.{bytes_decides}
 use Rattle.std.proofs.lemmas.Bool.{false≢true, eqb-true, eq-eqb, and_parts, and_from, cases_Bool}
 use Rattle.vf_tree.specs.Core.{Identity}
 use Rattle.vf_model.specs.Values.{Dyadic, Whole, Odd, Value, same_identity}
-use Rattle.vf_model.specs.Memory.{Memory, Block, Struct, Ints, Mutex, Handle, block_at}
+use Rattle.vf_model.specs.Memory.{Block, Struct, Ints, Mutex, Handle, block_at}
 use Rattle.vf_meaning.specs.Fractions.{exponent, nought, whole, sum, units, IsPositive, AtMost}
 use Rattle.vf_meaning.specs.Valuations.{is_same, same_fraction}
-use Rattle.vf_meaning.specs.Parts.{Location, FieldCell, IndexCell, StructBlock, IntBlock, MutexAt, HeldAt, HandleAt, Content, CellOf, Bare, LengthOf, MutexOf, HeldOf, HandleOf, block_of, same_location, same_held, same_content, Part, nothing, single, ◌⊕◌, Agree, IsConsistent, IsSum, HasNone, HasJust}
-use Rattle.vf_meaning.specs.Fits.{there, HasThere, HoldsMutex, FitsMutex, FitsHeld, FitsHandle, FitsAt, Fits}
+use Rattle.vf_meaning.specs.Parts.{Location, FieldCell, IndexCell, StructBlock, IntBlock, MutexAt, HeldAt, HandleAt, Content, CellOf, Bare, LengthOf, MutexOf, HeldOf, HandleOf, block_of, same_location, same_held, same_content, Part, nothing, single, ◌⊕◌, IsSum, HasNone, HasJust}
+use Rattle.vf_meaning.specs.Fits.{there, HasThere, FitsMutex, FitsHeld, FitsHandle, FitsAt}
 use Rattle.vf_meaning.specs.PartLaws.{TellsLocations, TellsContents, PartsAdd, SumsTurn, SumsRegroup, NothingIsNeutral, SumsAreConsistent, SinglesHaveJustThat, SinglesAdd, FittingIsConsistent, FittingIsAtMostWhole, WholeIsAlone, NothingFitsEmpty}
 use Rattle.vf_meaning.proofs.Fractions.{sum_commutes, sum_associates, sum_units, nought_adds_nothing, stays_positive, order_is_by_sums, order_is_total, units_positive}
 use Rattle.vf_meaning.proofs.Values.{tells_values}
@@ -155,11 +155,14 @@ in_either p q r h l c x = positive_either (p l c) (q l c) (subst IsPositive (sum
 
 pub sums_regroup : SumsRegroup
 sums_regroup p q r s t a b =
-    let inner : IsSum q s (q ⊕ s) = record { agree = λ l c d x y. b.agree l c d (in_right p q r a l c x) y; adds = refl } in
-    (q ⊕ s, inner, record {
-      agree = λ l c d x y. ⊎_elim (λ z. a.agree l c d x z) (λ z. b.agree l c d (in_left p q r a l c x) z) (in_either q s (q ⊕ s) inner l d y);
-      adds = b.adds ∙ ap (λ z. z ⊕ s) a.adds ∙ ⊕-assoc p q s;
-    })
+    let inner : IsSum q s (q ⊕ s) = record { agree = λ l c d x y. b.agree l c d (in_right p q r a l c x) y; adds = refl } in (
+      q ⊕ s,
+      inner,
+      record {
+        agree = λ l c d x y. ⊎_elim (λ z. a.agree l c d x z) (λ z. b.agree l c d (in_left p q r a l c x) z) (in_either q s (q ⊕ s) inner l d y);
+        adds = b.adds ∙ ap (λ z. z ⊕ s) a.adds ∙ ⊕-assoc p q s;
+      },
+    )
 
 pub nothing_is_neutral : NothingIsNeutral
 unfolding nothing
@@ -270,9 +273,9 @@ fitting_is_at_most_whole p m l c h =
     elim (limits p (block_at m (block_of l)) l (h l)) [
       | inl none ↦ subst (λ x. AtMost x whole) (sym (none c)) nought_most
       | inr one ↦ ⊎_elim
-        (λ same. subst (λ x. AtMost x whole) (sym one.just.here ∙ ap (λ d. p l d) (sym same)) one.most)
-        (λ other. subst (λ x. AtMost x whole) (sym (one.just.else c other)) nought_most)
-        (same_or_not c one.content)
+          (λ same. subst (λ x. AtMost x whole) (sym one.just.here ∙ ap (λ d. p l d) (sym same)) one.most)
+          (λ other. subst (λ x. AtMost x whole) (sym (one.just.else c other)) nought_most)
+          (same_or_not c one.content)
     ]
 
 -- nothing can be added to the whole
@@ -288,11 +291,11 @@ no_more y l =
 pub whole_is_alone : WholeIsAlone
 whole_is_alone p q r m l c d s f w =
     ⊎_elim (λ none. none) (λ some.
-      let most = fitting_is_at_most_whole r m l c f in
-      let total : r l c ≡ sum whole (q l c) = sum_at p q r s l c ∙ ap (λ x. sum x (q l c)) w in
-      let own = no_more (q l c) (subst (λ x. AtMost x whole) total most) in
-      let one = s.agree l c d (subst IsPositive (sym w) positive_whole) some in
-      ap (λ x. q l x) (sym one) ∙ own)
+    let most = fitting_is_at_most_whole r m l c f in
+    let total : r l c ≡ sum whole (q l c) = sum_at p q r s l c ∙ ap (λ x. sum x (q l c)) w in
+    let own = no_more (q l c) (subst (λ x. AtMost x whole) total most) in
+    let one = s.agree l c d (subst IsPositive (sym w) positive_whole) some in
+    ap (λ x. q l x) (sym one) ∙ own)
     (nought_or_positive (q l d))
   where
     positive_whole : IsPositive whole

@@ -1,23 +1,20 @@
 -- The laws of satisfaction: what grows keeps it, scales split, and satisfying parts are consistent.
-use Rattle.std.proofs.Common.{◌≡◌, ℕ, zero, suc, ◌≤◌, Bool, true, false, cond, List, [], ◌∷◌, ◌++◌, map, length, Option, Some, None, slice_get, refl, sym, ap, ap₂, subst, ◌∙◌, ◌⊎◌, inl, inr, arith}
-use Rattle.std.specs.Prelude.{IsTrue, pos, ℤ}
+use Rattle.std.proofs.Common.{◌≡◌, ℕ, zero, suc, ◌≤◌, Bool, true, false, List, [], ◌∷◌, map, Option, Some, None, refl, sym, ap, ap₂, subst, ◌∙◌, inl, inr, arith}
+use Rattle.std.specs.Prelude.{pos}
 use Rattle.std.specs.Bool.{MatchBool}
-use Rattle.vf_tree.specs.Core.{Identity, Field}
+use Rattle.vf_tree.specs.Core.{Identity}
 use Rattle.vf_model.specs.Values.{Dyadic, Value, Values, none, more, same_identity}
 use Rattle.vf_model.specs.Values as values
 use Rattle.vf_meaning.specs.Fractions.{sum, product, half}
-use Rattle.vf_meaning.specs.Ghost.{Sort, ConstructorTree}
-use Rattle.vf_meaning.specs.Valuations.{Valuation, listed, is_true, all_bound}
+use Rattle.vf_meaning.specs.Valuations.{Valuation, is_true, all_bound}
 use Rattle.vf_meaning.specs.GhostValues.{Interpretation, value_of, interpreted}
-use Rattle.vf_meaning.specs.Assertions.{ShareTree, Head, BlockOf, Named, Family, Applied, Assertion, Pure, Empty, Both, Choose, Switch, Cell, Chunk, Branches, no_branches, branch, BodyName, BodyTree, PredicateTree, Environment}
-use Rattle.vf_meaning.specs.Environments.{Extends}
-use Rattle.vf_meaning.specs.Sorts.{HasSort, HaveSorts, HaveFirst, AreOfSorts, ArgumentsAre, IsDatatypeOf, ParametersAre}
+use Rattle.vf_meaning.specs.Assertions.{Head, BlockOf, Named, Family, Applied, Assertion, Pure, Empty, Both, Choose, Switch, Cell, Chunk, Branches, no_branches, branch, BodyName, BodyTree, Environment}
 use Rattle.vf_meaning.specs.Parts.{Location, Content, FieldCell, IndexCell, CellOf, Part, nothing, single, ◌⊕◌, IsConsistent, IsSum}
-use Rattle.vf_meaning.specs.Chunks.{Wanted, wanted, Primitive, Mutexes, HeldMutexes, Handles, IntBlocks, IntCells, Others, primitive, IsFieldCell, IsStructBlock, IsIntBlock, IsMutex, IsHeldMutex, IsHandle, IsRow, IsRowAt, IsInts}
-use Rattle.vf_meaning.specs.Satisfaction.{IsShare, SatisfiesBody, SatisfiesPrimitive, SatisfiesNamed, SatisfiesFamily, SatisfiesValue, SatisfiesHead, SatisfiesBy, SatisfiesBranch, SatisfiesOf, SatisfiesIf, MeansAt, SatisfiesAt}
-use Rattle.vf_meaning.specs.SatisfactionLaws.{DepthGrows, DepthFalls, Splits, ScalesSplit, HalvesSplit, SatisfyingIsConsistent}
+use Rattle.vf_meaning.specs.Chunks.{Wanted, wanted, Primitive, Mutexes, HeldMutexes, Handles, IntBlocks, IntCells, Others, primitive, IsRow, IsRowAt, IsInts}
+use Rattle.vf_meaning.specs.Satisfaction.{SatisfiesBody, SatisfiesPrimitive, SatisfiesFamily, SatisfiesValue, SatisfiesHead, SatisfiesBy, SatisfiesBranch, SatisfiesIf, MeansAt, SatisfiesAt}
+use Rattle.vf_meaning.specs.SatisfactionLaws.{DepthGrows, DepthFalls, ScalesSplit, HalvesSplit, SatisfyingIsConsistent}
 use Rattle.vf_meaning.proofs.Fractions.{product_distributes, halves_make_the_whole}
-use Rattle.vf_meaning.proofs.Parts.{⊕-comm, ⊕-assoc, in_left, in_right, in_either, sums_turn, nothing_is_neutral, sums_are_consistent, singles_have_just_that, singles_add, not_nought}
+use Rattle.vf_meaning.proofs.Parts.{⊕-comm, ⊕-assoc, in_left, in_right, in_either, nothing_is_neutral, sums_are_consistent, singles_have_just_that, singles_add, not_nought}
 
 one_of : {A B C : Type 0} (b : Bool) → (A → C) → (B → C) → MatchBool b A B → C
 one_of true f g h = f h
@@ -253,7 +250,7 @@ two_match true A B S T U V p f g h = f h
 two_match false A B S T U V p f g h = g h
 
 module _ (M : Dyadic → BodyName → Values → Part → Type 0)
-  (each : (x y : Dyadic) (b : BodyName) (vs : Values) (p : Part) → M (sum x y) b vs p → Two (M x b vs) (M y b vs) p) where
+    (each : (x y : Dyadic) (b : BodyName) (vs : Values) (p : Part) → M (sum x y) b vs p → Two (M x b vs) (M y b vs) p) where
   two_body : (x y : Dyadic) (b : BodyName) (ws : List Wanted) (p : Part) → SatisfiesBody M (sum x y) b ws p → Two (SatisfiesBody M x b ws) (SatisfiesBody M y b ws) p
   two_body x y b ws p h = two_map _ _ _ _ p (λ q r. (h.0, h.1, r)) (λ q r. (h.0, h.1, r)) (each x y b h.0 p h.2)
 

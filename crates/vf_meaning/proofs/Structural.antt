@@ -1,8 +1,8 @@
 -- Fixpoints that use themselves only on what is smaller meet their equations.
-use Rattle.std.proofs.Common.{◌≡◌, ℕ, zero, suc, ◌+◌, ◌<◌, ◌≤◌, Bool, true, false, cond, not, ◌&&◌, ◌||◌, List, [], ◌∷◌, Option, Some, None, length, refl, sym, ap, ap₂, subst, ◌∙◌, ◌⊎◌, inl, inr, ⊎_elim, arith, neg_ℤ}
+use Rattle.std.proofs.Common.{◌≡◌, ℕ, zero, suc, ◌<◌, ◌≤◌, cond, not, ◌&&◌, ◌||◌, List, [], ◌∷◌, Option, Some, None, refl, sym, ap, ap₂, subst, ◌∙◌, ⊎_elim, arith, neg_ℤ}
 use Rattle.std.specs.Prelude.{Contains, IsTrue}
 use Rattle.std.specs.Cmp.Lexicographic.{bytes_decides}
-use Rattle.std.proofs.lemmas.Bool.{cases_Bool, cases_eq}
+use Rattle.std.proofs.lemmas.Bool.{cases_Bool}
 use Rattle.vf_tree.specs.Core.{Identity}
 use Rattle.vf_model.specs.Values.{Value, Values, none, more, number_of, same_identity}
 use Rattle.vf_model.specs.Values as values
@@ -36,7 +36,7 @@ named_small v (x ∷ xs) (more w ws) y n h (suc k, l, e) = named_small (bound v 
 
 -- ---- two values of the fixpoint that are one on what is smaller
 module _ (i : Interpretation) (f : Identity) (F G : Values → Value) (k : ℕ) (xs : List Name) (v : Valuation)
-  (same : (es : GhostExpressions) → IsOneOf xs (argument_at es k) → F (values_of (with_fixpoint i f G) v es) ≡ G (values_of (with_fixpoint i f G) v es)) where
+    (same : (es : GhostExpressions) → IsOneOf xs (argument_at es k) → F (values_of (with_fixpoint i f G) v es) ≡ G (values_of (with_fixpoint i f G) v es)) where
   applied_same : (g : Identity) (es : GhostExpressions) → (IsTrue (same_identity g f) → IsOneOf xs (argument_at es k))
       → cond (same_identity g f) (F (values_of (with_fixpoint i f G) v es)) (i.fixpoint g (values_of (with_fixpoint i f G) v es))
       ≡ cond (same_identity g f) (G (values_of (with_fixpoint i f G) v es)) (i.fixpoint g (values_of (with_fixpoint i f G) v es))
@@ -81,8 +81,8 @@ module _ (i : Interpretation) (f : Identity) (F G : Values → Value) where
   cases_same k v d ws same (c ∷ cs) h =
       ap₂ (λ r s. cond (same_identity c.constructor d) r s)
       (value_same i f F G k c.names (all_bound v c.names ws)
-        (λ es o. same _ (argument_small (with_fixpoint i f G) (all_bound v c.names ws) c.names (sizes ws) (λ x has. named_small v c.names ws x (sizes ws) (omega arith) has) es k o))
-        c.result h.0)
+      (λ es o. same _ (argument_small (with_fixpoint i f G) (all_bound v c.names ws) c.names (sizes ws) (λ x has. named_small v c.names ws x (sizes ws) (omega arith) has) es k o))
+      c.result h.0)
       (cases_same k v d ws same cs h.1)
 
   no_case : (v : Valuation) (cs : List CaseTree) (w : Value) → size w ≡ 0 → by_case (with_fixpoint i f F) v cs w ≡ by_case (with_fixpoint i f G) v cs w
@@ -110,6 +110,7 @@ module _ (i : Interpretation) (f : Identity) (F G : Values → Value) where
     where
       nowhere : (k : ℕ) → k < 0 → ⊥
       nowhere k l = omega arith
+
       no_name : (o : Option GhostExpression) → IsOneOf [] o → ⊥
       no_name None h = h
       no_name (Some e) h = nowhere (h.2).0 (h.2).1
@@ -138,4 +139,4 @@ fixpoints_meet_equations claims f fs vs h =
     ap (λ t. cond t (unfolded i f u vs) (i.fixpoint f.identity vs)) ((bytes_decides f.identity f.identity).1 refl)
     ∙ stable i f h u (suc u) vs (omega arith) (omega arith)
     ∙ body_same i f.identity (unfolded i f u) (λ us. unfolded i f (unfoldings f.body us) us) f.body vs h
-      (λ us less. stable i f h u (unfoldings f.body us) us (omega (arith, less)) (omega arith))
+    (λ us less. stable i f h u (unfoldings f.body us) us (omega (arith, less)) (omega arith))

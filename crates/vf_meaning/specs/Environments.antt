@@ -2,6 +2,7 @@
 use Rattle.std.specs.Prelude.{◌≡◌, ℕ, List, Contains, IsTrue, Some}
 use Rattle.vf_tree.specs.Core.{Identity}
 use Rattle.vf_meaning.specs.Ghost.{ConstructorTree, FixpointTree}
+use Rattle.vf_meaning.specs.Structural.{AreOrdered}
 use Rattle.vf_meaning.specs.Assertions.{BodyName, BodyTree, PredicateTree, ContractTree, Environment}
 
 -- the environment f has all declarations and bodies of e, with the same claims among them
@@ -19,9 +20,10 @@ pub record Extends (e f : Environment) : Type 0 where
 abbrev pub SomeUnit : List Environment → (Environment → Type 0) → Type 0
 SomeUnit units P = (u : Environment) × Contains units u × P u
 
--- The linked environment of units, each with its own: it has all that each of them has, and nothing that none of them has
+-- The linked environment of units, each with its own: it has all that each of them has, and nothing that none of them has, its fixpoints in order
 pub record IsLinked (units : List Environment) (e : Environment) : Type 0 where
   pub all : (u : Environment) → Contains units u → Extends u e
+  pub ordered : AreOrdered e.fixpoints
   pub constructors : (c : Identity) (k : ConstructorTree) → e.constructors c ≡ Some k → SomeUnit units (λ u. u.constructors c ≡ Some k)
   pub fixpoints : (k : FixpointTree) → Contains e.fixpoints k → SomeUnit units (λ u. Contains u.fixpoints k)
   pub claims : (g t : Identity) → IsTrue (e.claims g t) → SomeUnit units (λ u. IsTrue (u.claims g t))

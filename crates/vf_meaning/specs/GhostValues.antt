@@ -1,5 +1,5 @@
 -- The value of a ghost expression, and fixpoints by their equations.
-use Rattle.std.specs.Prelude.{ℕ, zero, suc, ℤ, pos, neg_ℤ, Bool, true, false, cond, not, ◌&&◌, ◌||◌, List, [], ◌∷◌, int_le, int_lt}
+use Rattle.std.specs.Prelude.{ℕ, zero, suc, ℤ, pos, neg_ℤ, Bool, false, cond, not, ◌&&◌, ◌||◌, List, [], ◌∷◌, int_le, int_lt}
 use Rattle.std.specs.Ordering.{int_eq}
 use Rattle.vf_tree.specs.Core.{Identity, ArithmeticOperator, Add, Subtract, Multiply, Divide, Remainder, Comparison, Equal, NotEqual, Less, LessEqual, Greater, GreaterEqual}
 use Rattle.vf_model.specs.Values.{Value, Values, none, more, number_of, same_identity}

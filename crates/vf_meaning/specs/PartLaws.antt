@@ -1,11 +1,11 @@
 -- Laws of parts. Each is the contract of a public function with an empty body.
-use Rattle.std.specs.Prelude.{◌≡◌, ◌↔◌, IsTrue, Some, None}
+use Rattle.std.specs.Prelude.{◌≡◌, ◌↔◌, IsTrue}
 use Rattle.std.specs.FinMap as map
 use Rattle.vf_model.specs.Values.{Dyadic}
-use Rattle.vf_model.specs.Memory.{Memory, Cell, content, block_at}
-use Rattle.vf_meaning.specs.Fractions.{nought, whole, sum, IsPositive, AtMost}
+use Rattle.vf_model.specs.Memory.{Memory}
+use Rattle.vf_meaning.specs.Fractions.{nought, whole, sum, AtMost}
 use Rattle.vf_meaning.specs.Parts.{Location, Content, same_location, same_content, Part, nothing, single, ◌⊕◌, IsConsistent, IsSum, HasJust}
-use Rattle.vf_meaning.specs.Fits.{there, Fits}
+use Rattle.vf_meaning.specs.Fits.{Fits}
 
 -- the test on locations says just that two are equal
 abbrev pub TellsLocations : Type 0

@@ -2,7 +2,7 @@
 use Rattle.std.specs.Prelude.{◌≡◌, ◌≢◌, ℕ, Bool, true, false, cond, ◌&&◌, ◌==◌, Option, Some, None}
 use Rattle.vf_tree.specs.Core.{Identity}
 use Rattle.vf_model.specs.Values.{Dyadic, Value, same_identity}
-use Rattle.vf_meaning.specs.Fractions.{nought, whole, sum, IsPositive}
+use Rattle.vf_meaning.specs.Fractions.{nought, sum, IsPositive}
 use Rattle.vf_meaning.specs.Valuations.{is_same, same_fraction}
 
 infixr 65 ◌⊕◌

@@ -1,5 +1,5 @@
 -- When a part satisfies an assertion, at a scale and by what predicates mean; and what predicates mean at a depth.
-use Rattle.std.specs.Prelude.{◌≡◌, ℕ, zero, suc, ◌<◌, IsTrue, List, [], ◌∷◌, ◌++◌, map, Option, Some, None}
+use Rattle.std.specs.Prelude.{◌≡◌, ℕ, zero, suc, ◌<◌, IsTrue, List, ◌++◌, map, Option, Some, None}
 use Rattle.std.specs.Bool.{MatchBool}
 use Rattle.vf_tree.specs.Core.{Identity}
 use Rattle.vf_model.specs.Values.{Dyadic, Value, Values, same_identity}

@@ -1,11 +1,12 @@
 -- Laws of satisfaction. Each is the contract of a public function with an empty body.
-use Rattle.std.specs.Prelude.{◌≡◌, ℕ, zero, suc, ◌≤◌, ◌↔◌}
+use Rattle.std.specs.Prelude.{◌≡◌, ℕ, suc, ◌≤◌, ◌↔◌}
 use Rattle.vf_model.specs.Values.{Dyadic, Values}
-use Rattle.vf_meaning.specs.Fractions.{sum, half}
-use Rattle.vf_meaning.specs.Ghost.{Name}
+use Rattle.vf_tree.specs.Core.{Field}
+use Rattle.vf_meaning.specs.Fractions.{sum, half, IsPositive}
+use Rattle.vf_meaning.specs.Ghost.{Name, GhostExpression}
 use Rattle.vf_meaning.specs.Valuations.{Valuation}
 use Rattle.vf_meaning.specs.Names.{UsesIn}
-use Rattle.vf_meaning.specs.Assertions.{Assertion, BodyName, Environment}
+use Rattle.vf_meaning.specs.Assertions.{ShareTree, PatternTree, Cell, Assertion, BodyName, Environment}
 use Rattle.vf_meaning.specs.Environments.{Extends}
 use Rattle.vf_meaning.specs.Parts.{Part, IsConsistent, IsSum}
 use Rattle.vf_meaning.specs.Satisfaction.{SatisfiesIf, MeansAt, SatisfiesAt}
@@ -51,3 +52,10 @@ DeclarationsGrow =
 -- a part that satisfies an assertion has one content at each location
 abbrev pub SatisfyingIsConsistent : Type 0
 SatisfyingIsConsistent = (e : Environment) (n : ℕ) (s : Dyadic) (a : Assertion) (v : Valuation) (p : Part) → SatisfiesAt e n s a v p → IsConsistent p
+
+-- two shares of one cell, whose sum is a part, are one share of it at the sum of their scales, and so hold the same
+abbrev pub CellsJoin : Type 0
+CellsJoin =
+    (e : Environment) (n : ℕ) (s t : Dyadic) (share : ShareTree) (x : GhostExpression) (f : Field) (w : PatternTree) (v : Valuation) (p q r : Part)
+    → IsPositive s → IsPositive t → SatisfiesAt e n s (Cell share x f w) v p → SatisfiesAt e n t (Cell share x f w) v q → IsSum p q r
+    → SatisfiesAt e n (sum s t) (Cell share x f w) v r

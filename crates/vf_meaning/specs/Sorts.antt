@@ -1,10 +1,9 @@
 -- Which values a sort has, and valuations that give each name a value of its sort.
 use Rattle.std.specs.Prelude.{◌≡◌, ℕ, List, [], ◌∷◌, ◌++◌, drop, slice_get, Option, Some, None, ◌⊎◌}
-use Rattle.vf_tree.specs.Core.{Identity}
 use Rattle.vf_model.specs.Values.{Value, Values, none, more}
 use Rattle.vf_model.specs.Values as values
 use Rattle.vf_meaning.specs.Fractions.{IsPositive}
-use Rattle.vf_meaning.specs.Ghost.{Sort, Sorts, Integers, Truths, Pointers, Fractions, Anything, Datatype, Predicates, listed, Numbered, ConstructorTree}
+use Rattle.vf_meaning.specs.Ghost.{Sort, Integers, Truths, Pointers, Fractions, Anything, Datatype, Predicates, listed, Numbered, ConstructorTree}
 use Rattle.vf_meaning.specs.Valuations.{Valuation, count}
 use Rattle.vf_meaning.specs.Assertions.{PredicateTree, Environment}
 

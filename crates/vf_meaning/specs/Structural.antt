@@ -1,9 +1,9 @@
 -- Fixpoints that use themselves only on what is smaller, whose values are then given by their equations.
-use Rattle.std.specs.Prelude.{◌≡◌, ℕ, zero, suc, Bool, IsTrue, List, [], ◌∷◌, Contains, Option, Some, None}
+use Rattle.std.specs.Prelude.{◌≡◌, ◌≢◌, ◌⊎◌, ℕ, zero, suc, Bool, IsTrue, List, [], ◌∷◌, Contains, Option, Some, None}
 use Rattle.vf_tree.specs.Core.{Identity}
 use Rattle.vf_model.specs.Values.{Values, same_identity}
 use Rattle.vf_meaning.specs.Ghost.{Name, GhostExpression, GhostExpressions, no_expressions, and_expression, Variable, Number, Truth, Null, Function, Construct, Apply, PredicateValue, Claims, Negate, Arithmetic, PointerSum, Compare, Not, And, Or, Choose, CaseTree, FixpointBody, Returns, Switches, FixpointTree}
-use Rattle.vf_meaning.specs.GhostValues.{Interpretation, by_body, interpreted}
+use Rattle.vf_meaning.specs.GhostValues.{by_body, interpreted}
 
 -- the argument at a place, counted from 0
 abbrev pub argument_at : GhostExpressions → ℕ → Option GhostExpression
@@ -60,3 +60,42 @@ abbrev pub FixpointsMeetEquations : Type 0
 FixpointsMeetEquations =
     (claims : Identity → Identity → Bool) (f : FixpointTree) (fs : List FixpointTree) (vs : Values) → IsStructural f
     → (interpreted claims (f ∷ fs)).fixpoint f.identity vs ≡ by_body (interpreted claims (f ∷ fs)) f.body vs
+
+-- an expression uses a fixpoint
+abbrev mutual
+  pub Applies : GhostExpression → Identity → Type 0
+  Applies (Variable y) g = ⊥
+  Applies (Number z) g = ⊥
+  Applies (Truth b) g = ⊥
+  Applies Null g = ⊥
+  Applies (Function h) g = ⊥
+  Applies (Construct c es) g = AnyApplies es g
+  Applies (Apply f es) g = (f ≡ g) ⊎ AnyApplies es g
+  Applies (PredicateValue p es) g = AnyApplies es g
+  Applies (Claims t e) g = Applies e g
+  Applies (Negate e) g = Applies e g
+  Applies (Arithmetic op a b) g = Applies a g ⊎ Applies b g
+  Applies (PointerSum a b) g = Applies a g ⊎ Applies b g
+  Applies (Compare op a b) g = Applies a g ⊎ Applies b g
+  Applies (Not e) g = Applies e g
+  Applies (And a b) g = Applies a g ⊎ Applies b g
+  Applies (Or a b) g = Applies a g ⊎ Applies b g
+  Applies (Choose c a b) g = Applies c g ⊎ (Applies a g ⊎ Applies b g)
+
+  pub AnyApplies : GhostExpressions → Identity → Type 0
+  AnyApplies no_expressions g = ⊥
+  AnyApplies (and_expression e es) g = Applies e g ⊎ AnyApplies es g
+
+-- the body of a fixpoint uses a fixpoint
+abbrev pub BodyApplies : FixpointBody → Identity → Type 0
+BodyApplies (Returns e) g = Applies e g
+BodyApplies (Switches k cases) g = (c : CaseTree) × Contains cases c × Applies c.result g
+
+-- Fixpoints stand in order: each uses itself, only on what is smaller, and those after it, and no two have one name
+abbrev pub AreOrdered : List FixpointTree → Type 0
+AreOrdered [] = Unit {0}
+AreOrdered (f ∷ fs) =
+    IsStructural f
+    × ((g : Identity) → BodyApplies f.body g → (g ≡ f.identity) ⊎ ((h : FixpointTree) × Contains fs h × (h.identity ≡ g)))
+    × ((h : FixpointTree) → Contains fs h → h.identity ≢ f.identity)
+    × AreOrdered fs

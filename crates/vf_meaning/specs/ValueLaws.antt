@@ -1,10 +1,10 @@
 -- Laws of values and ghost expressions. Each is the contract of a public function with an empty body.
-use Rattle.std.specs.Prelude.{◌≡◌, ℤ, pos, ◌↔◌, IsTrue}
+use Rattle.std.specs.Prelude.{◌≡◌, pos, ◌↔◌, IsTrue}
 use Rattle.vf_tree.specs.Core.{Divide, Remainder}
 use Rattle.vf_model.specs.Values.{Value, number_of}
 use Rattle.vf_model.specs.Values as values
 use Rattle.vf_meaning.specs.Ghost.{Name, same_name, GhostExpression, Arithmetic}
-use Rattle.vf_meaning.specs.Valuations.{Valuation, is_same, bound}
+use Rattle.vf_meaning.specs.Valuations.{Valuation, is_same}
 use Rattle.vf_meaning.specs.Names.{Uses}
 use Rattle.vf_meaning.specs.GhostValues.{Interpretation, value_of}
 

@@ -1,6 +1,6 @@
 //! Laws of satisfaction. Each function does nothing; its contract is the law.
 
-ghost use Rattle.vf_meaning.specs.SatisfactionLaws.{DepthGrows, DepthFalls, ScalesSplit, HalvesSplit, SatisfyingIsConsistent, NamesAgree, DeclarationsGrow};
+ghost use Rattle.vf_meaning.specs.SatisfactionLaws.{DepthGrows, DepthFalls, ScalesSplit, HalvesSplit, SatisfyingIsConsistent, NamesAgree, DeclarationsGrow, CellsJoin};
 
 /// What is satisfied at a depth is at each greater depth.
 pub fn depth_grows()
@@ -35,4 +35,9 @@ pub fn names_agree()
 /// More declarations take nothing away.
 pub fn declarations_grow()
     ensures { DeclarationsGrow }
+{}
+
+/// Two shares of one cell are one share of it at the sum of their scales.
+pub fn cells_join()
+    ensures { CellsJoin }
 {}
