@@ -1,0 +1,5 @@
+use Rattle.vf_meaning.proofs.Parts.{fitting_is_consistent}
+use Rattle.vf_meaning.proofs.part_laws.fitting_is_consistent.Goals as goal
+
+pub returns : goal.returns
+returns c = fitting_is_consistent

@@ -1,0 +1,30 @@
+//! What annotations mean: fractions, values of ghost expressions, parts of memory, and when a part
+//! satisfies an assertion.
+//!
+//! The definitions stand in `specs/`, above those of the machine; the code here is public functions
+//! with an empty body, each of which has a law as its contract.
+#![tactic(auto)]
+
+mod fixpoint_laws;
+mod fraction_laws;
+mod part_laws;
+mod satisfaction_laws;
+mod value_laws;
+
+pub use fixpoint_laws::fixpoints_meet_equations;
+pub use fraction_laws::{
+    counts_in_units, form_is_one, halves_make_the_whole, nought_adds_nothing, order_is_by_sums,
+    order_is_total, order_is_transitive, product_associates, product_commutes, product_distributes,
+    reduces_to_its_value, stays_positive, sum_associates, sum_commutes, tells_order,
+    whole_scales_nothing,
+};
+pub use part_laws::{
+    fitting_is_at_most_whole, fitting_is_consistent, nothing_fits_empty, nothing_is_neutral,
+    parts_add, singles_add, singles_have_just_that, sums_are_consistent, sums_regroup, sums_turn,
+    tells_contents, tells_locations, whole_is_alone,
+};
+pub use satisfaction_laws::{
+    cells_join, declarations_grow, depth_falls, depth_grows, halves_split, names_agree,
+    satisfying_is_consistent, scales_split,
+};
+pub use value_laws::{divides_by_nought, tells_names, tells_values, values_agree};
