@@ -1,5 +1,5 @@
 -- The pieces of a text: what stands in front of it, and how many bytes that takes.
-use Rattle.std.specs.Prelude.{ℕ, ◌+◌, ◌-◌, ◌==◌, Bool, true, false, ◌||◌, ◌&&◌, if◌then◌else◌, nat_eq, nat_le, List, [], ◌∷◌, length, take, drop, codes, slice_get, Option, Some, None}
+use Rattle.std.specs.Prelude.{ℕ, ◌+◌, ◌-◌, ◌<◌, ◌≤◌, ◌==◌, Bool, true, false, ◌||◌, ◌&&◌, if◌then◌else◌, nat_eq, nat_le, List, [], ◌∷◌, length, take, drop, codes, slice_get, Option, Some, None}
 use Rattle.std.specs.Char.{is_ascii_digit}
 use Rattle.std.specs.List.{prefix_len, starts_with}
 use Rattle.std.specs.Str.{bytes_eq}
@@ -136,3 +136,8 @@ begins_with_mark text = starts_with nat_eq text (codes "//@") || starts_with nat
 -- a piece of a ghost header, where the marks of annotations are gaps
 unfoldable pub header_piece : List ℕ → Option Piece
 header_piece text = if begins_with_mark text then Some (gap 3) else plain_piece true text
+
+-- a piece takes a byte at least, and it and the rest of its annotation so many at most
+abbrev pub PieceFits : ℕ → Option Piece → Type 0
+PieceFits most None = Unit {0}
+PieceFits most (Some p) = (0 < p.size) × (p.size + (p.region.inside + p.region.closing) ≤ most)

@@ -67,8 +67,9 @@ token_of s (shapes.Token kind) size = Some (record {
 abbrev pub spot_behind : Spot → Piece → Place → Spot
 spot_behind s piece place = record { header = s.header; place = place; start = s.start + piece.size; region = piece.region; text = drop piece.size s.text }
 
--- what stands at a spot: no piece can start or go on at a place, or a piece, which may be a token, and the spot behind it
+-- what stands at a spot: the text's end, a place at which no piece can start or go on, or a piece, which may be a token, and the spot behind it
 pub data Next : Type 0 where
+  End : Next
   Fault : Place → Next
   Piece_is : Option Token → Spot → Next
 
@@ -80,18 +81,22 @@ abbrev pub next_piece : Spot → Option Piece → Next
 next_piece s None = Fault s.place
 next_piece s (Some piece) = next_walked s piece (walk s.place piece.size s.text)
 
+abbrev pub next_in : Spot → List ℕ → Next
+next_in s [] = End
+next_in s (b ∷ bs) = next_piece s (piece_at s)
+
 unfoldable pub next_at : Spot → Next
-next_at s = next_piece s (piece_at s)
+next_at s = next_in s s.text
 
 -- the rest of a text is pieces, of which these are the tokens
 pub data Gives : Spot → List Token → Type 0 where
-  ended : {s : Spot} → s.text ≡ [] → Gives s []
+  ended : {s : Spot} → next_at s ≡ End → Gives s []
   passed : {s t : Spot} {tokens : List Token} → next_at s ≡ Piece_is None t → Gives t tokens → Gives s tokens
   found : {s t : Spot} {token : Token} {tokens : List Token} → next_at s ≡ Piece_is (Some token) t → Gives t tokens → Gives s (token ∷ tokens)
 
 -- the rest of a text is pieces up to a place, where none can start or go on
 pub data Stops : Spot → Place → Type 0 where
-  here : {s : Spot} {p : Place} {b : ℕ} {bs : List ℕ} → s.text ≡ b ∷ bs → next_at s ≡ Fault p → Stops s p
+  here : {s : Spot} {p : Place} → next_at s ≡ Fault p → Stops s p
   later : {s t : Spot} {token : Option Token} {p : Place} → next_at s ≡ Piece_is token t → Stops t p → Stops s p
 
 -- where a fault is a place at which no token stands, a fact of that place

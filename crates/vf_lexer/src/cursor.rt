@@ -1,8 +1,10 @@
 //! What is left of a text.
 
-ghost use Rattle.std.specs.Prelude.{◌≡◌, ◌×◌, ◌<◌, ◌≤◌, ◌+◌, ◌^◌, length, IfOk, IfErr, OnOk, IfSome, Ok, Err};
-ghost use Rattle.vf_lexer.specs.Tokens.{Spot, beginning, walk, piece_at, token_of, spot_behind, is_ghost, next_at, annotated_piece, Fault, Piece_is};
+ghost use Rattle.std.specs.Prelude.{◌≡◌, ◌<◌, ◌≤◌, ◌+◌, ◌^◌, length, nat_eq, IfOk, IfErr, OnOk, IfSome, Ok, Err};
+ghost use Rattle.vf_lexer.specs.Tokens.{Spot, beginning, walk, piece_at, token_of, spot_behind, is_ghost, next_at, annotated_piece, Fault, Piece_is, IfLex};
+ghost use Rattle.std.specs.List.{list_any, starts_with};
 ghost use Rattle.vf_lexer.specs.Bytes.{is_barred};
+ghost use Rattle.vf_lexer.specs.Pieces.{PieceFits};
 
 use crate::fault::LexFault;
 use crate::piece::{Piece, Region, Shape, gap, header_piece, inner_piece, outer_piece};
@@ -36,6 +38,7 @@ fn is_barred(text: &[u8]) -> bool
 }
 
 /// The place behind so many bytes, or that of the first at which begins what may stand nowhere.
+#[tactic(auto, using(crate::proofs::Steps::walk_step, crate::proofs::Steps::walk_stops))]
 fn walk(text: &[u8], size: usize, start: Place) -> Result<Place, Place>
     requires size { size ≤ length text.now }
     requires line { start.line + length text.now < 2 ^ 32 }
@@ -46,8 +49,8 @@ fn walk(text: &[u8], size: usize, start: Place) -> Result<Place, Place>
 {
     let mut place = start;
     let mut left = text;
-    let mut size = size;
-    while size > 0 {
+    let mut count = size;
+    while count > 0 {
         let [first, rest @ ..] = left else {
             break;
         };
@@ -61,7 +64,7 @@ fn walk(text: &[u8], size: usize, start: Place) -> Result<Place, Place>
             place.column += 1;
         }
         left = rest;
-        size -= 1;
+        count -= 1;
     }
     Ok(place)
 }
@@ -77,7 +80,7 @@ pub struct Cursor<'a> {
 }
 
 impl<'a> Model for Cursor<'a> {
-    ghost use Rattle.std.specs.Prelude.{◌+◌, ◌<◌, ◌≤◌, ◌^◌, ◌×◌, length};
+    ghost use Rattle.std.specs.Prelude.{◌+◌, ◌<◌, ◌≤◌, ◌^◌, length};
     ghost use Rattle.vf_lexer.specs.Tokens.{Spot};
 
     ghost Value = { Spot };
@@ -127,7 +130,8 @@ impl<'a> Cursor<'a> {
     }
 
     fn annotated_piece(&self) -> Option<Piece>
-        ensures { result ≡ annotated_piece self.now.region self.now.text }
+        ensures same { result ≡ annotated_piece self.now.region self.now.text }
+        ensures fits { PieceFits (length self.now.text) result }
     {
         if self.region.inside > 0 {
             let piece = inner_piece(&self.left[..self.region.inside])?;
@@ -149,7 +153,8 @@ impl<'a> Cursor<'a> {
     /// The piece that stands here.
     #[tactic(auto, unfolding(crate::specs::Tokens::piece_at))]
     fn piece(&self) -> Option<Piece>
-        ensures { result ≡ piece_at self.now }
+        ensures same { result ≡ piece_at self.now }
+        ensures fits { PieceFits (length self.now.text) result }
     {
         if self.header {
             header_piece(self.left)
@@ -183,6 +188,7 @@ impl<'a> Cursor<'a> {
     /// Goes over the next piece, and gives the token that it is, if it is one.
     #[tactic(auto, unfolding(crate::specs::Tokens::next_at))]
     pub fn next(&mut self, alloc: Global) -> Result<Option<Token>, LexFault>
+        requires { 0 < length self.old.text }
         ensures gives { IfOk result (λ token. next_at self.old ≡ Piece_is token self.new) }
         ensures shorter { OnOk result (length self.new.text < length self.old.text) }
         ensures fault { IfErr result (λ e. IfLex e (λ p. next_at self.old ≡ Fault p)) }

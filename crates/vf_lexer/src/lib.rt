@@ -7,7 +7,7 @@
 mod class;
 mod cursor;
 mod fault;
-mod lex;
+mod lexer;
 mod literal;
 mod number;
 mod piece;
@@ -15,7 +15,7 @@ mod punctuator;
 mod token;
 
 pub use fault::LexFault;
-pub use lex::{lex, one_reading};
+pub use lexer::{lex, one_reading};
 pub use punctuator::Punctuator;
 pub use token::{Kind, Token, TokenList};
 

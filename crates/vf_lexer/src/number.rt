@@ -1,10 +1,10 @@
 //! Numbers.
 
-ghost use Rattle.std.specs.Prelude.{◌≡◌, ◌≤◌, ◌×◌, length};
+ghost use Rattle.std.specs.Prelude.{◌≡◌, ◌≤◌, length};
 ghost use Rattle.std.specs.List.{find, list_any};
 ghost use Rattle.std.specs.Str.{bytes_eq};
 ghost use Rattle.std.specs.Str.Parse.{AllDigits};
-ghost use Rattle.vf_lexer.specs.Numbers.{most_of, is_unsigned, longs_of, is_listed, is_fit, type_of, type_in, suffix_longs, suffix_of, digits_len, value_of, real_type, ghost_type, number_with, split_number, number_of};
+ghost use Rattle.vf_lexer.specs.Numbers.{most_of, is_unsigned, longs_of, is_listed, is_fit, type_of, type_in, is_u, suffix_longs, suffix_of, digits_len, value_of, real_type, ghost_type, number_with, split_number, number_of};
 
 use vf_base::IntType;
 
@@ -135,14 +135,33 @@ fn suffix_longs(suffix: &[u8]) -> Option<u8>
     None
 }
 
+fn is_u(byte: u8) -> bool
+    ensures { result ≡ is_u byte }
+{
+    byte == b'u' || byte == b'U'
+}
+
+fn has_u(suffix: &[u8]) -> bool
+    ensures { result ≡ list_any is_u suffix.now }
+{
+    for byte in suffix {
+        if is_u(*byte) {
+            return true;
+        }
+    }
+    false
+}
+
 /// What a suffix asks for.
 #[tactic(auto, unfolding(crate::specs::Numbers::suffix_of))]
 fn suffix_of(suffix: &[u8]) -> Option<Suffix>
     ensures { result ≡ suffix_of suffix.now }
 {
     let longs = suffix_longs(suffix)?;
-    let unsigned = suffix.iter().any(|byte| *byte == b'u' || *byte == b'U');
-    Some(Suffix { unsigned, longs })
+    Some(Suffix {
+        unsigned: has_u(suffix),
+        longs,
+    })
 }
 
 fn digits_len(text: &[u8], base: u8) -> usize
@@ -158,7 +177,7 @@ fn digits_len(text: &[u8], base: u8) -> usize
 }
 
 /// The number that digits write, where one of 64 bits is it.
-#[tactic(auto, unfolding(crate::specs::Numbers::value_of))]
+#[tactic(auto, using(crate::proofs::Steps::no_value), unfolding(crate::specs::Numbers::value_of))]
 fn value_of(digits: &[u8], base: u8) -> Option<u64>
     requires base { (2 ≤ base) × (base ≤ 16) }
     requires digits { AllDigits base digits.now }

@@ -1,7 +1,7 @@
 //! The piece in front of a text.
 
 ghost use Rattle.std.specs.Prelude.{◌≡◌, ◌<◌, ◌≤◌, ◌+◌, length, IfSome};
-ghost use Rattle.vf_lexer.specs.Pieces.{gap, opening, solid_piece, ended_from, block_comment, plain_piece, closed_block, block_opening, outer_piece, inner_piece, begins_with_mark, header_piece};
+ghost use Rattle.vf_lexer.specs.Pieces.{gap, opening, solid_piece, ended_from, block_comment, plain_piece, closed_block, block_opening, outer_piece, inner_piece, begins_with_mark, header_piece, PieceFits};
 
 use crate::class::{Class, is_blank};
 use crate::literal::token_front;
@@ -80,7 +80,8 @@ fn solid_piece(ghost_text: bool, text: &[u8]) -> Option<Piece>
 /// How many bytes there are up to the end of the first `*/`, `before` of them before this text.
 fn ended_from(before: usize, text: &[u8]) -> Option<usize>
     requires { before + length text.now ≤ 1048576 }
-    ensures { result ≡ ended_from before text.now }
+    ensures same { result ≡ ended_from before text.now }
+    ensures within { IfSome result (λ n. n ≤ before + length text.now) }
 {
     let mut count = before;
     let mut left = text;
@@ -137,10 +138,11 @@ fn block_opening(text: &[u8]) -> Option<Piece>
 }
 
 /// A piece outside annotations.
-#[tactic(auto, unfolding(crate::specs::Pieces::outer_piece))]
+#[tactic(auto, using(crate::proofs::Sizes::outer_fits), unfolding(crate::specs::Pieces::outer_piece))]
 pub fn outer_piece(text: &[u8]) -> Option<Piece>
     requires { length text.now ≤ 1048576 }
-    ensures { result ≡ outer_piece text.now }
+    ensures same { result ≡ outer_piece text.now }
+    ensures fits { PieceFits (length text.now) result }
 {
     if text.starts_with(b"//@") {
         return Some(opening(Class::Line.run_len(&text[3..]), 0));
@@ -152,10 +154,11 @@ pub fn outer_piece(text: &[u8]) -> Option<Piece>
 }
 
 /// A piece of the text inside an annotation.
-#[tactic(auto, unfolding(crate::specs::Pieces::inner_piece))]
+#[tactic(auto, using(crate::proofs::Sizes::inner_fits), unfolding(crate::specs::Pieces::inner_piece))]
 pub fn inner_piece(text: &[u8]) -> Option<Piece>
     requires { length text.now ≤ 1048576 }
-    ensures { result ≡ inner_piece text.now }
+    ensures same { result ≡ inner_piece text.now }
+    ensures fits { PieceFits (length text.now) result }
 {
     if text.starts_with(b"//") {
         return Some(gap(Class::Line.run_len(text)));
@@ -173,10 +176,11 @@ fn begins_with_mark(text: &[u8]) -> bool
 }
 
 /// A piece of a ghost header, where the marks of annotations are gaps.
-#[tactic(auto, unfolding(crate::specs::Pieces::header_piece))]
+#[tactic(auto, using(crate::proofs::Sizes::header_fits), unfolding(crate::specs::Pieces::header_piece))]
 pub fn header_piece(text: &[u8]) -> Option<Piece>
     requires { length text.now ≤ 1048576 }
-    ensures { result ≡ header_piece text.now }
+    ensures same { result ≡ header_piece text.now }
+    ensures fits { PieceFits (length text.now) result }
 {
     if begins_with_mark(text) {
         Some(gap(3))

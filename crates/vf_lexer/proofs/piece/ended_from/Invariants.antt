@@ -4,7 +4,7 @@ use Rattle.vf_lexer.proofs.piece.ended_from.Given as goal
 
 abbrev pub invariant-loop-left : goal.invariant-loop-left
 invariant-loop-left l = record {
-  within : l.count + length l.left ≤ 1048576;
+  gone : l.count + length l.left ≡ l.before + length l.text;
   same : ended_from l.count l.left ≡ ended_from l.before l.text;
 }
 

@@ -1,0 +1,42 @@
+-- Steps of the loops: over bytes, over digits, and over pieces.
+use Rattle.std.proofs.Common.{◌≡◌, ℕ, zero, suc, ◌+◌, ◌-◌, ◌*◌, ◌<◌, ◌≤◌, Bool, true, false, cond, List, [], ◌∷◌, ◌++◌, length, take, drop, Option, Some, None, refl, sym, ap, subst, ◌∙◌, arith, append_assoc}
+use Rattle.std.specs.Prelude.{nat_le, nat_lt, Ok, Err}
+use Rattle.std.specs.Char.{digit_value, is_digit}
+use Rattle.std.specs.Str.Parse.{AllDigits, digits_value, digits_value_after}
+use Rattle.std.proofs.lemmas.Bool.{ltb-true}
+use Rattle.std.proofs.lemmas.Bool.Decides.{nat_tests}
+use Rattle.vf_base.specs.declared.place.Place.{Place}
+use Rattle.vf_lexer.specs.Bytes.{is_barred}
+use Rattle.vf_lexer.specs.Numbers.{value_of, digits_len}
+use Rattle.vf_lexer.specs.Tokens.{walk, place_behind}
+
+pub walk_step : (p : Place) (n b : ℕ) (bs : List ℕ) → 0 < n → is_barred (b ∷ bs) ≡ false → walk p n (b ∷ bs) ≡ walk (place_behind p b) (n - 1) bs
+walk_step p zero b bs h e = absurd (omega arith)
+walk_step p (suc n) b bs h e = let one : suc n - 1 ≡ n = omega arith in rw (e, one) refl
+
+pub walk_stops : (p : Place) (n b : ℕ) (bs : List ℕ) → 0 < n → is_barred (b ∷ bs) ≡ true → walk p n (b ∷ bs) ≡ Err p
+walk_stops p zero b bs h e = absurd (omega arith)
+walk_stops p (suc n) b bs h e = rw e refl
+
+pub value_grows : (base n : ℕ) (digits : List ℕ) → 1 ≤ base → n ≤ digits_value_after base n digits
+value_grows base n [] h = omega arith
+value_grows base n (d ∷ ds) h =
+    let step : n ≤ n * base + digit_value d = grind (arith) in
+    omega (arith, value_grows base (n * base + digit_value d) ds h)
+
+pub no_value : (base next : ℕ) (digits rest : List ℕ) → 1 ≤ base → digits_value_after base next rest ≡ digits_value base digits → 18446744073709551615 < next → value_of base digits ≡ None
+unfolding value_of
+no_value base next digits rest h same over =
+    let grown = value_grows base next rest h in
+    let value = digits_value base digits in
+    let large : 18446744073709551615 < digits_value base digits = omega arith in
+    let no : nat_le (digits_value base digits) 18446744073709551615 ≡ false = grind (arith, nat_tests) in
+    rw no refl
+
+pub all_digits : (base : ℕ) (text : List ℕ) → AllDigits base (take (digits_len base text) text)
+all_digits base [] = tt
+all_digits base (b ∷ bs) = digits_by base b bs (is_digit b base) refl
+
+digits_by : (base b : ℕ) (bs : List ℕ) (t : Bool) → is_digit b base ≡ t → AllDigits base (take (digits_len base (b ∷ bs)) (b ∷ bs))
+digits_by base b bs true e = ?
+digits_by base b bs false e = rw e tt
