@@ -2,9 +2,10 @@
 use Rattle.std.proofs.Common.{◌≡◌, ℕ, suc, ◌+◌, ◌-◌, ◌<◌, ◌≤◌, Bool, true, false, cond, List, [], ◌∷◌, length, take, drop, Option, Some, None, refl, sym, ap, subst, ◌∙◌, arith, length-take, length-drop}
 use Rattle.std.specs.Prelude.{nat_eq, nat_lt, nat_le, ◌&&◌, ◌||◌, codes, slice_get}
 use Rattle.std.specs.Char.{is_ascii_digit}
-use Rattle.std.specs.List.{pointwise, starts_with, prefix_len, list_all, find}
+use Rattle.std.specs.Cmp.Lexicographic.{pointwise}
+use Rattle.std.specs.List.{starts_with, prefix_len, list_all, find}
 use Rattle.std.proofs.lemmas.List.Sums.{prefix_len-le-length}
-use Rattle.std.proofs.lemmas.Bool.{leb-true, ltb-true}
+use Rattle.std.proofs.lemmas.Bool.{leb-true, ltb-true, eqb-true}
 use Rattle.vf_base.specs.declared.int_type.IntType.{IntType}
 use Rattle.vf_lexer.specs.declared.class.Class.{Class}
 use Rattle.vf_lexer.specs.declared.class.Class.TheVariants as classes
@@ -29,6 +30,14 @@ or_left false b h = absurd cc
 or_right : (a b : Bool) → b ≡ true → (a || b) ≡ true
 or_right true b h = refl
 or_right false b h = h
+
+and_left : (a b : Bool) → (a && b) ≡ true → a ≡ true
+and_left true b h = refl
+and_left false b h = absurd cc
+
+or_case : {P : Type 0} (a b : Bool) → (a || b) ≡ true → (a ≡ true → P) → (b ≡ true → P) → P
+or_case true b h k l = k refl
+or_case false b h k l = l h
 
 and_right : (a b : Bool) → (a && b) ≡ true → b ≡ true
 and_right true b h = h
@@ -113,10 +122,6 @@ longest_fits (p ∷ ps) text h = either (λ o. FrontFits (length text) (with_siz
     (λ e. (ltb-true 0 (length (spelling p)) (and_left (nat_lt 0 (length (spelling p))) _ h), starts_fits text (spelling p) e))
     (λ e. longest_fits ps text (and_right (nat_lt 0 (length (spelling p))) _ h))
 
-and_left : (a b : Bool) → (a && b) ≡ true → a ≡ true
-and_left true b h = refl
-and_left false b h = absurd cc
-
 punctuator_fits : (ghost : Bool) (text : List ℕ) → FrontFits (length text) (punctuator_front ghost text)
 unfolding punctuator_of
 punctuator_fits true text = longest_fits ghost_punctuators text refl
@@ -170,13 +175,15 @@ comment_fits text e =
     let two : 2 ≤ length text = starts_fits text (codes "/*") e in
     comment_then (length text) (length (drop 2 text)) (ended_from 2 (drop 2 text)) (omega (arith, length-drop 2 text)) (ends_within 2 (drop 2 text))
 
+-- a slash ends no line
+some_line : (b : ℕ) (bs : List ℕ) → starts_with nat_eq (b ∷ bs) (codes "//") ≡ true → 0 < run_len classes.Line (b ∷ bs)
+some_line b bs e =
+    let slash : 47 ≡ b = eqb-true 47 b (and_left (nat_eq 47 b) _ e) in
+    some_run classes.Line b bs (subst (λ x. is_of classes.Line x ≡ true) slash refl)
+
 line_fits : (text : List ℕ) → starts_with nat_eq text (codes "//") ≡ true → PieceFits (length text) (Some (gap (run_len classes.Line text)))
 line_fits [] e = absurd (let two : 2 ≤ length {A = ℕ} [] = starts_fits [] (codes "//") e in omega arith)
 line_fits (b ∷ bs) e = (some_line b bs e, omega (arith, run_within classes.Line (b ∷ bs)))
-
--- a slash ends no line
-some_line : (b : ℕ) (bs : List ℕ) → starts_with nat_eq (b ∷ bs) (codes "//") ≡ true → 0 < run_len classes.Line (b ∷ bs)
-some_line b bs e = ?
 
 plain_piece_fits : (ghost : Bool) (text : List ℕ) → PieceFits (length text) (plain_piece ghost text)
 unfolding plain_piece
@@ -211,7 +218,8 @@ inner_fits text = either (PieceFits (length text)) (starts_with nat_eq text (cod
     (λ e. either (PieceFits (length text)) (starts_with nat_eq text (codes "/*")) _ _ (λ f. tt) (λ f. solid_fits true text))
 
 mark_fits : (text : List ℕ) → begins_with_mark text ≡ true → 3 ≤ length text
-mark_fits text e = ?
+mark_fits text e = or_case (starts_with nat_eq text (codes "//@")) (starts_with nat_eq text (codes "/*@") || starts_with nat_eq text (codes "@*/")) e (starts_fits text (codes "//@"))
+    (λ f. or_case (starts_with nat_eq text (codes "/*@")) (starts_with nat_eq text (codes "@*/")) f (starts_fits text (codes "/*@")) (starts_fits text (codes "@*/")))
 
 pub header_fits : (text : List ℕ) → PieceFits (length text) (header_piece text)
 unfolding header_piece

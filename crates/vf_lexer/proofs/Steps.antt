@@ -3,6 +3,7 @@ use Rattle.std.proofs.Common.{◌≡◌, ℕ, zero, suc, ◌+◌, ◌-◌, ◌*�
 use Rattle.std.specs.Prelude.{nat_le, nat_lt, Ok, Err}
 use Rattle.std.specs.Char.{digit_value, is_digit}
 use Rattle.std.specs.Str.Parse.{AllDigits, digits_value, digits_value_after}
+use Rattle.std.proofs.Math.Nat.{mul-le-mul_left}
 use Rattle.std.proofs.lemmas.Bool.{ltb-true}
 use Rattle.std.proofs.lemmas.Bool.Decides.{nat_tests}
 use Rattle.vf_base.specs.declared.place.Place.{Place}
@@ -21,7 +22,9 @@ walk_stops p (suc n) b bs h e = rw e refl
 pub value_grows : (base n : ℕ) (digits : List ℕ) → 1 ≤ base → n ≤ digits_value_after base n digits
 value_grows base n [] h = omega arith
 value_grows base n (d ∷ ds) h =
-    let step : n ≤ n * base + digit_value d = grind (arith) in
+    let times : n * 1 ≤ n * base = mul-le-mul_left n h in
+    let more = digit_value d in
+    let step : n ≤ n * base + digit_value d = omega arith in
     omega (arith, value_grows base (n * base + digit_value d) ds h)
 
 pub no_value : (base next : ℕ) (digits rest : List ℕ) → 1 ≤ base → digits_value_after base next rest ≡ digits_value base digits → 18446744073709551615 < next → value_of base digits ≡ None
@@ -33,10 +36,10 @@ no_value base next digits rest h same over =
     let no : nat_le (digits_value base digits) 18446744073709551615 ≡ false = grind (arith, nat_tests) in
     rw no refl
 
+digits_by : (base b : ℕ) (bs : List ℕ) (t : Bool) → is_digit b base ≡ t → AllDigits base (take (digits_len base bs) bs) → AllDigits base (take (digits_len base (b ∷ bs)) (b ∷ bs))
+digits_by base b bs true e rest = let one : 1 + digits_len base bs ≡ suc (digits_len base bs) = omega arith in rw (e, one) (ltb-true (digit_value b) base e, rest)
+digits_by base b bs false e rest = rw e tt
+
 pub all_digits : (base : ℕ) (text : List ℕ) → AllDigits base (take (digits_len base text) text)
 all_digits base [] = tt
-all_digits base (b ∷ bs) = digits_by base b bs (is_digit b base) refl
-
-digits_by : (base b : ℕ) (bs : List ℕ) (t : Bool) → is_digit b base ≡ t → AllDigits base (take (digits_len base (b ∷ bs)) (b ∷ bs))
-digits_by base b bs true e = ?
-digits_by base b bs false e = rw e tt
+all_digits base (b ∷ bs) = digits_by base b bs (is_digit b base) refl (all_digits base bs)

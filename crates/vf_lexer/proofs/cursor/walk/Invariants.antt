@@ -8,7 +8,7 @@ invariant-loop-count l = record {
   gone : length l.left + l.size ≡ length l.text + l.count;
   line : l.place.line + length l.left < 2 ^ 32;
   column : l.place.column + length l.left < 2 ^ 32;
-  same : walk l.place l.count l.left ≡ walk l.start l.size l.text;
+  same : walk l.place l.count l.left ≡ walk l.fn.start l.size l.text;
 }
 
 abbrev pub decreases-loop-count : goal.decreases-loop-count

@@ -1,4 +1,4 @@
-use Rattle.std.proofs.Common.{◌≡◌, ◌+◌, ◌≤◌, length}
+use Rattle.std.proofs.Common.{◌≡◌, ◌+◌, length}
 use Rattle.vf_lexer.specs.Pieces.{ended_from}
 use Rattle.vf_lexer.proofs.piece.ended_from.Given as goal
 
