@@ -1,5 +1,5 @@
 -- A piece takes a byte at least, and no more than there are.
-use Rattle.std.proofs.Common.{◌≡◌, ℕ, suc, ◌+◌, ◌-◌, ◌<◌, ◌≤◌, Bool, true, false, cond, List, [], ◌∷◌, length, take, drop, Option, Some, None, refl, sym, ap, subst, ◌∙◌, arith, length-take, length-drop}
+use Rattle.std.proofs.Common.{◌≡◌, ℕ, zero, suc, ◌+◌, ◌-◌, ◌<◌, ◌≤◌, Bool, true, false, cond, List, [], ◌∷◌, length, take, drop, Option, Some, None, refl, sym, ap, subst, ◌∙◌, arith, length-take, length-drop}
 use Rattle.std.specs.Prelude.{nat_eq, nat_lt, nat_le, ◌&&◌, ◌||◌, codes, slice_get}
 use Rattle.std.specs.Char.{is_ascii_digit}
 use Rattle.std.specs.Cmp.Lexicographic.{pointwise}
@@ -144,7 +144,7 @@ unfolding FrontFits
 token_then most None h = tt
 token_then most (Some x) h = (h.0, omega (arith, h.1))
 
-solid_fits : (ghost : Bool) (text : List ℕ) → PieceFits (length text) (solid_piece ghost text)
+pub solid_fits : (ghost : Bool) (text : List ℕ) → PieceFits (length text) (solid_piece ghost text)
 unfolding solid_piece
 solid_fits ghost [] = tt
 solid_fits ghost (b ∷ bs) = either (PieceFits (length (b ∷ bs))) (is_blank b) _ _ (λ e. (omega arith, omega arith)) (λ e. token_then (length (b ∷ bs)) (token_front ghost (b ∷ bs)) (token_fits ghost (b ∷ bs)))
@@ -185,7 +185,7 @@ line_fits : (text : List ℕ) → starts_with nat_eq text (codes "//") ≡ true 
 line_fits [] e = absurd (let two : 2 ≤ length {A = ℕ} [] = starts_fits [] (codes "//") e in omega arith)
 line_fits (b ∷ bs) e = (some_line b bs e, omega (arith, run_within classes.Line (b ∷ bs)))
 
-plain_piece_fits : (ghost : Bool) (text : List ℕ) → PieceFits (length text) (plain_piece ghost text)
+pub plain_piece_fits : (ghost : Bool) (text : List ℕ) → PieceFits (length text) (plain_piece ghost text)
 unfolding plain_piece
 plain_piece_fits ghost text = either (PieceFits (length text)) (starts_with nat_eq text (codes "//")) _ _ (λ e. line_fits text e)
     (λ e. either (PieceFits (length text)) (starts_with nat_eq text (codes "/*")) _ _ (λ f. comment_fits text f) (λ f. solid_fits ghost text))
@@ -201,7 +201,7 @@ unfolding EndsWithin
 opening_then text None h = tt
 opening_then text (Some n) h = closed_fits text n (omega (arith, h.1))
 
-opening_fits : (text : List ℕ) → 3 ≤ length text → PieceFits (length text) (block_opening (drop 3 text))
+pub opening_fits : (text : List ℕ) → 3 ≤ length text → PieceFits (length text) (block_opening (drop 3 text))
 opening_fits text h =
     let whole : 3 + length (drop 3 text) ≡ length text = omega (arith, length-drop 3 text) in
     subst (λ n. PieceFits n (block_opening (drop 3 text))) whole (opening_then (drop 3 text) (ended_from 0 (drop 3 text)) (ends_within 0 (drop 3 text)))
@@ -218,8 +218,9 @@ inner_fits text = either (PieceFits (length text)) (starts_with nat_eq text (cod
     (λ e. either (PieceFits (length text)) (starts_with nat_eq text (codes "/*")) _ _ (λ f. tt) (λ f. solid_fits true text))
 
 mark_fits : (text : List ℕ) → begins_with_mark text ≡ true → 3 ≤ length text
-mark_fits text e = or_case (starts_with nat_eq text (codes "//@")) (starts_with nat_eq text (codes "/*@") || starts_with nat_eq text (codes "@*/")) e (starts_fits text (codes "//@"))
-    (λ f. or_case (starts_with nat_eq text (codes "/*@")) (starts_with nat_eq text (codes "@*/")) f (starts_fits text (codes "/*@")) (starts_fits text (codes "@*/")))
+mark_fits text e = or_case (starts_with nat_eq text (codes "//@") || starts_with nat_eq text (codes "/*@")) (starts_with nat_eq text (codes "@*/")) e
+    (λ f. or_case (starts_with nat_eq text (codes "//@")) (starts_with nat_eq text (codes "/*@")) f (starts_fits text (codes "//@")) (starts_fits text (codes "/*@")))
+    (starts_fits text (codes "@*/"))
 
 pub header_fits : (text : List ℕ) → PieceFits (length text) (header_piece text)
 unfolding header_piece

@@ -9,15 +9,23 @@ use Rattle.std.proofs.lemmas.Bool.Decides.{nat_tests}
 use Rattle.vf_base.specs.declared.place.Place.{Place}
 use Rattle.vf_lexer.specs.Bytes.{is_barred}
 use Rattle.vf_lexer.specs.Numbers.{value_of, digits_len}
-use Rattle.vf_lexer.specs.Tokens.{walk, place_behind}
+use Rattle.vf_lexer.specs.declared.fault.LexFault.{LexFault}
+use Rattle.vf_lexer.specs.declared.fault.LexFault.TheVariants as faults
+use Rattle.vf_lexer.specs.Tokens.{walk, place_behind, Spot, Next, End, Fault, next_in, next_at, Stops, here, IfLex}
 
-pub walk_step : (p : Place) (n b : ℕ) (bs : List ℕ) → 0 < n → is_barred (b ∷ bs) ≡ false → walk p n (b ∷ bs) ≡ walk (place_behind p b) (n - 1) bs
+walk_step : (p : Place) (n b : ℕ) (bs : List ℕ) → 0 < n → is_barred (b ∷ bs) ≡ false → walk p n (b ∷ bs) ≡ walk (place_behind p b) (n - 1) bs
 walk_step p zero b bs h e = absurd (omega arith)
 walk_step p (suc n) b bs h e = let one : suc n - 1 ≡ n = omega arith in rw (e, one) refl
 
-pub walk_stops : (p : Place) (n b : ℕ) (bs : List ℕ) → 0 < n → is_barred (b ∷ bs) ≡ true → walk p n (b ∷ bs) ≡ Err p
-walk_stops p zero b bs h e = absurd (omega arith)
-walk_stops p (suc n) b bs h e = rw e refl
+walk_halts : (p : Place) (n b : ℕ) (bs : List ℕ) → 0 < n → is_barred (b ∷ bs) ≡ true → walk p n (b ∷ bs) ≡ Err p
+walk_halts p zero b bs h e = absurd (omega arith)
+walk_halts p (suc n) b bs h e = rw e refl
+
+pub walk_goes : (p : Place) (n b : ℕ) (bs left : List ℕ) → left ≡ b ∷ bs → 0 < n → is_barred left ≡ false → walk (place_behind p b) (n - 1) bs ≡ walk p n left
+walk_goes p n b bs left e h f = let g : is_barred (b ∷ bs) ≡ false = rw e at f in rw e (sym (walk_step p n b bs h g))
+
+pub walk_stops : (p : Place) (n b : ℕ) (bs left : List ℕ) → left ≡ b ∷ bs → 0 < n → is_barred left ≡ true → walk p n left ≡ Err p
+walk_stops p n b bs left e h f = let g : is_barred (b ∷ bs) ≡ true = rw e at f in rw e (walk_halts p n b bs h g)
 
 pub value_grows : (base n : ℕ) (digits : List ℕ) → 1 ≤ base → n ≤ digits_value_after base n digits
 value_grows base n [] h = omega arith
@@ -43,3 +51,15 @@ digits_by base b bs false e rest = rw e tt
 pub all_digits : (base : ℕ) (text : List ℕ) → AllDigits base (take (digits_len base text) text)
 all_digits base [] = tt
 all_digits base (b ∷ bs) = digits_by base b bs (is_digit b base) refl (all_digits base bs)
+
+end_in : (s : Spot) (text : List ℕ) → length text ≤ 0 → next_in s text ≡ End
+end_in s [] h = refl
+end_in s (b ∷ bs) h = absurd (omega arith)
+
+pub at_end : (s : Spot) → length s.text ≤ 0 → next_at s ≡ End
+unfolding next_at
+at_end s h = end_in s s.text h
+
+pub stops_here : (e : LexFault) (s start : Spot) → IfLex e (λ p. next_at s ≡ Fault p) → ((p : Place) → Stops s p → Stops start p) → IfLex e (λ p. Stops start p)
+stops_here (faults.Lex p) s start h earlier = earlier p (here h)
+stops_here faults.Memory s start h earlier = tt

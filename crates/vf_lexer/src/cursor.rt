@@ -1,7 +1,7 @@
 //! What is left of a text.
 
-ghost use Rattle.std.specs.Prelude.{◌≡◌, ◌<◌, ◌≤◌, ◌+◌, ◌^◌, length, nat_eq, IfOk, IfErr, OnOk, IfSome, Ok, Err};
-ghost use Rattle.vf_lexer.specs.Tokens.{Spot, beginning, walk, piece_at, token_of, spot_behind, is_ghost, next_at, annotated_piece, Fault, Piece_is, IfLex};
+ghost use Rattle.std.specs.Prelude.{◌≡◌, ◌<◌, ◌≤◌, ◌+◌, ◌^◌, [], ◌∷◌, length, nat_eq, IfOk, IfErr, OnOk, IfSome, IfNone, Ok, Err};
+ghost use Rattle.vf_lexer.specs.Tokens.{Spot, beginning, place_behind, walk, piece_at, token_of, spot_behind, is_ghost, next_at, annotated_piece, Fault, Piece_is, IfLex};
 ghost use Rattle.std.specs.List.{list_any, starts_with};
 ghost use Rattle.vf_lexer.specs.Bytes.{is_barred};
 ghost use Rattle.vf_lexer.specs.Pieces.{PieceFits};
@@ -37,8 +37,42 @@ fn is_barred(text: &[u8]) -> bool
     begins_with_one_of(&BARRED, text)
 }
 
+/// The place behind a byte: a line feed ends its line, and each other byte takes one column.
+fn place_behind(place: Place, byte: u8) -> Place
+    requires line { place.line + 1 < 2 ^ 32 }
+    requires column { place.column + 1 < 2 ^ 32 }
+    ensures same { result ≡ place_behind place byte }
+    ensures line { result.line ≤ place.line + 1 }
+    ensures column { result.column ≤ place.column + 1 }
+{
+    if byte == b'\n' {
+        Place {
+            file: place.file,
+            line: place.line + 1,
+            column: 1,
+        }
+    } else {
+        Place {
+            file: place.file,
+            line: place.line,
+            column: place.column + 1,
+        }
+    }
+}
+
+/// The first byte of a text, and what follows it.
+fn first_and_rest(text: &[u8]) -> Option<(u8, &[u8])>
+    ensures found { IfSome result (λ x. text.now ≡ x.0 ∷ x.1.now) }
+    ensures none { IfNone result (text.now ≡ []) }
+{
+    match text {
+        [first, rest @ ..] => Some((*first, rest)),
+        [] => None,
+    }
+}
+
 /// The place behind so many bytes, or that of the first at which begins what may stand nowhere.
-#[tactic(auto, using(crate::proofs::Steps::walk_step, crate::proofs::Steps::walk_stops))]
+#[tactic(auto, using(crate::proofs::Steps::walk_goes, crate::proofs::Steps::walk_stops))]
 fn walk(text: &[u8], size: usize, start: Place) -> Result<Place, Place>
     requires size { size ≤ length text.now }
     requires line { start.line + length text.now < 2 ^ 32 }
@@ -51,18 +85,13 @@ fn walk(text: &[u8], size: usize, start: Place) -> Result<Place, Place>
     let mut left = text;
     let mut count = size;
     while count > 0 {
-        let [first, rest @ ..] = left else {
+        let Some((first, rest)) = first_and_rest(left) else {
             break;
         };
         if is_barred(left) {
             return Err(place);
         }
-        if *first == b'\n' {
-            place.line += 1;
-            place.column = 1;
-        } else {
-            place.column += 1;
-        }
+        place = place_behind(place, first);
         left = rest;
         count -= 1;
     }

@@ -20,8 +20,9 @@ pub fn lex(alloc: Global, bytes: &[u8], file: u32, ghost_header: bool) -> Result
     let mut tokens = Sequence::new(alloc);
     let mut cursor = Cursor::new(bytes, file, ghost_header);
     while cursor.len() > 0 {
-        if let Some(token) = cursor.next(alloc)? {
-            tokens.push(token)?;
+        match cursor.next(alloc)? {
+            Some(token) => tokens.push(token)?,
+            None => {}
         }
     }
     Ok(tokens)
