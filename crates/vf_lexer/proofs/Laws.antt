@@ -1,8 +1,8 @@
 -- A text has one cut into pieces, or one place where none starts or goes on.
-use Rattle.std.proofs.Common.{◌≡◌, List, [], ◌∷◌, Option, Some, None, refl, subst}
+use Rattle.std.proofs.Common.{◌≡◌, List, Option, Some, None, refl, subst}
 use Rattle.vf_base.specs.declared.place.Place.{Place}
 use Rattle.vf_lexer.specs.declared.token.Token.{Token}
-use Rattle.vf_lexer.specs.Tokens.{Spot, Next, End, Fault, Piece_is, next_at, Gives, ended, passed, found, Stops, here, later}
+use Rattle.vf_lexer.specs.Tokens.{Spot, Next, Piece_is, next_at, Gives, ended, passed, found, Stops, here, later}
 
 -- a spot has one piece, and one spot behind it
 one_behind : (n : Next) (x y : Option Token) (t u : Spot) → n ≡ Piece_is x t → n ≡ Piece_is y u → u ≡ t

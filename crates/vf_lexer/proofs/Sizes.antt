@@ -1,19 +1,16 @@
 -- A piece takes a byte at least, and no more than there are.
-use Rattle.std.proofs.Common.{◌≡◌, ℕ, zero, suc, ◌+◌, ◌-◌, ◌<◌, ◌≤◌, Bool, true, false, cond, List, [], ◌∷◌, length, take, drop, Option, Some, None, refl, sym, ap, subst, ◌∙◌, arith, length-take, length-drop}
+use Rattle.std.proofs.Common.{◌≡◌, ℕ, zero, suc, ◌+◌, ◌-◌, ◌<◌, ◌≤◌, Bool, true, false, cond, List, [], ◌∷◌, length, take, drop, Option, Some, None, refl, ap, subst, arith, length-take, length-drop}
 use Rattle.std.specs.Prelude.{nat_eq, nat_lt, nat_le, ◌&&◌, ◌||◌, codes, slice_get}
 use Rattle.std.specs.Char.{is_ascii_digit}
 use Rattle.std.specs.Cmp.Lexicographic.{pointwise}
-use Rattle.std.specs.List.{starts_with, prefix_len, list_all, find}
+use Rattle.std.specs.List.{starts_with, list_all}
 use Rattle.std.proofs.lemmas.List.Sums.{prefix_len-le-length}
 use Rattle.std.proofs.lemmas.Bool.{leb-true, ltb-true, eqb-true}
 use Rattle.vf_base.specs.declared.int_type.IntType.{IntType}
 use Rattle.vf_lexer.specs.declared.class.Class.{Class}
 use Rattle.vf_lexer.specs.declared.class.Class.TheVariants as classes
-use Rattle.vf_lexer.specs.declared.token.Kind.{Kind}
 use Rattle.vf_lexer.specs.declared.token.Kind.TheVariants as kinds
 use Rattle.vf_lexer.specs.declared.punctuator.Punctuator.{Punctuator}
-use Rattle.vf_lexer.specs.declared.piece.Region.{Region}
-use Rattle.vf_lexer.specs.declared.piece.Piece.{Piece}
 use Rattle.vf_lexer.specs.Bytes.{is_letter, is_blank, is_plain}
 use Rattle.vf_lexer.specs.Numbers.{◌>>=◌, number_of}
 use Rattle.vf_lexer.specs.Punctuators.{spelling, longest_of, punctuator_of, real_punctuators, ghost_punctuators}

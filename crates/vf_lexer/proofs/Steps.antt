@@ -1,6 +1,6 @@
 -- Steps of the loops: over bytes, over digits, and over pieces.
-use Rattle.std.proofs.Common.{◌≡◌, ℕ, zero, suc, ◌+◌, ◌-◌, ◌*◌, ◌<◌, ◌≤◌, Bool, true, false, cond, List, [], ◌∷◌, ◌++◌, length, take, drop, Option, Some, None, refl, sym, ap, subst, ◌∙◌, arith, append_assoc}
-use Rattle.std.specs.Prelude.{nat_le, nat_lt, Ok, Err}
+use Rattle.std.proofs.Common.{◌≡◌, ℕ, zero, suc, ◌+◌, ◌-◌, ◌*◌, ◌<◌, ◌≤◌, Bool, true, false, List, [], ◌∷◌, length, take, None, refl, sym, arith}
+use Rattle.std.specs.Prelude.{nat_le, Err}
 use Rattle.std.specs.Char.{digit_value, is_digit}
 use Rattle.std.specs.Str.Parse.{AllDigits, digits_value, digits_value_after}
 use Rattle.std.proofs.Math.Nat.{mul-le-mul_left}
@@ -11,7 +11,7 @@ use Rattle.vf_lexer.specs.Bytes.{is_barred}
 use Rattle.vf_lexer.specs.Numbers.{value_of, digits_len}
 use Rattle.vf_lexer.specs.declared.fault.LexFault.{LexFault}
 use Rattle.vf_lexer.specs.declared.fault.LexFault.TheVariants as faults
-use Rattle.vf_lexer.specs.Tokens.{walk, place_behind, Spot, Next, End, Fault, next_in, next_at, Stops, here, IfLex}
+use Rattle.vf_lexer.specs.Tokens.{walk, place_behind, Spot, End, Fault, next_in, next_at, Stops, here, IfLex}
 
 walk_step : (p : Place) (n b : ℕ) (bs : List ℕ) → 0 < n → is_barred (b ∷ bs) ≡ false → walk p n (b ∷ bs) ≡ walk (place_behind p b) (n - 1) bs
 walk_step p zero b bs h e = absurd (omega arith)

@@ -3,12 +3,10 @@ use Rattle.std.specs.Prelude.{ℕ, ◌+◌, ◌-◌, ◌<◌, ◌≤◌, ◌==�
 use Rattle.std.specs.Char.{is_ascii_digit}
 use Rattle.std.specs.List.{prefix_len, starts_with}
 use Rattle.std.specs.Str.{bytes_eq}
-use Rattle.vf_base.specs.declared.int_type.IntType.{IntType}
 use Rattle.vf_lexer.specs.declared.class.Class.{Class}
 use Rattle.vf_lexer.specs.declared.class.Class.TheVariants as classes
 use Rattle.vf_lexer.specs.declared.token.Kind.{Kind}
 use Rattle.vf_lexer.specs.declared.token.Kind.TheVariants as kinds
-use Rattle.vf_lexer.specs.declared.piece.Shape.{Shape}
 use Rattle.vf_lexer.specs.declared.piece.Shape.TheVariants as shapes
 use Rattle.vf_lexer.specs.declared.piece.Region.{Region}
 use Rattle.vf_lexer.specs.declared.piece.Piece.{Piece}

@@ -1,5 +1,5 @@
 -- Punctuators, and which of them a text begins with.
-use Rattle.std.specs.Prelude.{Bool, true, false, List, [], ◌∷◌, ℕ, codes, nat_eq, Option, Some, None, if◌then◌else◌}
+use Rattle.std.specs.Prelude.{Bool, List, [], ◌∷◌, ℕ, codes, nat_eq, Option, if◌then◌else◌}
 use Rattle.std.specs.List.{find, starts_with}
 use Rattle.vf_lexer.specs.declared.punctuator.Punctuator.{Punctuator}
 use Rattle.vf_lexer.specs.declared.punctuator.Punctuator.TheVariants as punctuators

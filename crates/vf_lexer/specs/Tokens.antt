@@ -1,9 +1,8 @@
 -- The tokens of a text, with their bytes, places and ghost marks, and the place where a text has none.
-use Rattle.std.specs.Prelude.{◌≡◌, ℕ, zero, suc, ◌+◌, ◌-◌, ◌==◌, Bool, true, false, ◌||◌, if◌then◌else◌, nat_lt, List, [], ◌∷◌, length, take, drop, Option, Some, None, Result, Ok, Err}
+use Rattle.std.specs.Prelude.{◌≡◌, ℕ, zero, suc, ◌+◌, ◌-◌, ◌==◌, Bool, ◌||◌, if◌then◌else◌, nat_lt, List, [], ◌∷◌, take, drop, Option, Some, None, Result, Ok, Err}
 use Rattle.vf_base.specs.declared.place.Place.{Place}
 use Rattle.vf_lexer.specs.declared.fault.LexFault.{LexFault}
 use Rattle.vf_lexer.specs.declared.fault.LexFault.TheVariants as faults
-use Rattle.vf_lexer.specs.declared.token.Kind.{Kind}
 use Rattle.vf_lexer.specs.declared.token.Token.{Token}
 use Rattle.vf_lexer.specs.declared.piece.Shape.{Shape}
 use Rattle.vf_lexer.specs.declared.piece.Shape.TheVariants as shapes

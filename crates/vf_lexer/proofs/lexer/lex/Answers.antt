@@ -1,7 +1,7 @@
-use Rattle.std.proofs.Common.{◌≡◌, Some, None, [], ◌∷◌, ◌++◌, append_assoc, arith, length, sym}
+use Rattle.std.proofs.Common.{◌≡◌, Some, None, [], ◌∷◌, append_assoc, arith}
 use Rattle.std.proofs.lemmas.List.{append-nil}
 use Rattle.std.proofs.lemmas.Result.{err_from_is_err_and}
-use Rattle.vf_lexer.specs.Tokens.{Gives, Stops, beginning, End, Piece_is, next_at, ended, passed, found, later}
+use Rattle.vf_lexer.specs.Tokens.{End, Piece_is, next_at, ended, passed, found, later}
 use Rattle.vf_lexer.proofs.Steps.{at_end, stops_here}
 use Rattle.vf_lexer.proofs.lexer.lex.Goals as goal
 
@@ -14,7 +14,7 @@ pub loop-cursor-preserved-in-Continue-branch-3 : goal.loop-cursor-preserved-in-C
 loop-cursor-preserved-in-Continue-branch-3 c =
     let step : next_at c.loop-cursor.cursor ≡ Piece_is (Some c.in-Some.token) c.next.new.self = rw c.in-Some.is at c.in_ok-token.ensures.gives in
     record {
-      tokens = λ more g. rw (c.in_ok-push.ensures.pushed, append_assoc) (c.loop-cursor.invariant.tokens (c.in-Some.token ∷ more) (found step g));
+      tokens = λ more g. rw (c.in_ok-push-in-Some.ensures.pushed, append_assoc) (c.loop-cursor.invariant.tokens (c.in-Some.token ∷ more) (found step g));
       stops = λ p h. c.loop-cursor.invariant.stops p (later step h);
     }
 
