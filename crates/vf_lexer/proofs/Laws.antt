@@ -2,7 +2,9 @@
 use Rattle.std.proofs.Common.{◌≡◌, List, Option, Some, None, refl, subst}
 use Rattle.vf_base.specs.declared.place.Place.{Place}
 use Rattle.vf_lexer.specs.declared.token.Token.{Token}
-use Rattle.vf_lexer.specs.Tokens.{Spot, Next, Piece_is, next_at, Gives, ended, passed, found, Stops, here, later}
+use Rattle.vf_lexer.specs.declared.fault.LexFault.{LexFault}
+use Rattle.vf_lexer.specs.declared.fault.LexFault.TheVariants as faults
+use Rattle.vf_lexer.specs.Tokens.{IfLex, Spot, Next, Piece_is, next_at, Gives, ended, passed, found, Stops, here, later}
 
 -- a spot has one piece, and one spot behind it
 one_behind : (n : Next) (x y : Option Token) (t u : Spot) → n ≡ Piece_is x t → n ≡ Piece_is y u → u ≡ t
@@ -35,3 +37,8 @@ never_both (passed e g) (here f) = absurd cc
 never_both (passed {s = s} {t = t} e g) (later {t = u} {token = y} {p = q} f h) = never_both g (subst (λ z. Stops z q) (one_behind (next_at s) None y t u e f) h)
 never_both (found e g) (here f) = absurd cc
 never_both (found {s = s} {t = t} {token = x} e g) (later {t = u} {token = y} {p = q} f h) = never_both g (subst (λ z. Stops z q) (one_behind (next_at s) (Some x) y t u e f) h)
+
+-- where a text stops it has no tokens
+pub none_there : (e : LexFault) (start : Spot) → IfLex e (λ p. Stops start p) → IfLex e (λ _. (tokens : List Token) → Gives start tokens → ⊥)
+none_there (faults.Lex p) start h = λ tokens g. never_both g h
+none_there faults.Memory start h = tt

@@ -83,3 +83,7 @@ longest_of ps text = find (λ p. starts_with nat_eq text (spelling p)) ps
 -- the longest punctuator with which a text begins
 unfoldable pub punctuator_of : Bool → List ℕ → Option Punctuator
 punctuator_of ghost text = if ghost then longest_of ghost_punctuators text else longest_of real_punctuators text
+
+-- the punctuators of one kind of text
+abbrev pub punctuators_in : Bool → List Punctuator
+punctuators_in ghost = if ghost then ghost_punctuators else real_punctuators

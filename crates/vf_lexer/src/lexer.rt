@@ -12,10 +12,17 @@ use std::alloc::Global;
 use vf_base::Sequence;
 
 /// The tokens of a text of a file with this number. All are ghost where it is a ghost header.
-pub fn lex(alloc: Global, bytes: &[u8], file: u32, ghost_header: bool) -> Result<TokenList, LexFault>
+pub fn lex(
+    alloc: Global,
+    bytes: &[u8],
+    file: u32,
+    ghost_header: bool,
+) -> Result<TokenList, LexFault>
     requires { length bytes.now ≤ 1048576 }
     ensures gives { IfOk result (λ tokens. Gives (beginning ghost_header file bytes.now) tokens) }
     ensures stops { IfErr result (λ e. IfLex e (λ p. Stops (beginning ghost_header file bytes.now) p)) }
+    ensures none { IfErr result (λ e. IfLex e (λ _. (tokens : List Token)
+        → Gives (beginning ghost_header file bytes.now) tokens → ⊥)) }
 {
     let mut tokens = Sequence::new(alloc);
     let mut cursor = Cursor::new(bytes, file, ghost_header);

@@ -16,7 +16,7 @@ mod token;
 
 pub use fault::LexFault;
 pub use lexer::{lex, one_reading};
-pub use punctuator::Punctuator;
+pub use punctuator::{Punctuator, longest_punctuator};
 pub use token::{Kind, Token, TokenList};
 
 #[cfg(test)]

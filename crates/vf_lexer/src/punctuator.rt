@@ -1,7 +1,9 @@
 //! Punctuators.
 
-ghost use Rattle.std.specs.Prelude.{◌≡◌, ◌<◌, ◌≤◌, length, IfSome};
-ghost use Rattle.vf_lexer.specs.Punctuators.{spelling, longest_of, punctuator_of};
+ghost use Rattle.std.specs.Prelude.{◌≡◌, ◌≤◌, List, ℕ, Bool, true, length, nat_eq, Contains, Some};
+ghost use Rattle.std.specs.List.{starts_with};
+ghost use Rattle.vf_lexer.specs.declared.punctuator.Punctuator.{Punctuator};
+ghost use Rattle.vf_lexer.specs.Punctuators.{spelling, longest_of, punctuator_of, punctuators_in};
 
 /// A punctuator of C or of ghost text.
 #[derive(Clone, Copy, Debug, PartialEq, Eq)]
@@ -273,3 +275,10 @@ pub fn punctuator_of(ghost_text: bool, text: &[u8]) -> Option<Punctuator>
         longest_of(&REAL, text)
     }
 }
+
+/// The punctuator in front of a text is the longest of those with which the text begins.
+pub fn longest_punctuator()
+    ensures { (ghost_text : Bool) (text : List ℕ) (p q : Punctuator)
+        → punctuator_of ghost_text text ≡ Some p → Contains (punctuators_in ghost_text) q
+        → starts_with nat_eq text (spelling q) ≡ true → length (spelling q) ≤ length (spelling p) }
+{}

@@ -2,6 +2,7 @@ use Rattle.std.proofs.Common.{◌≡◌, Some, None, [], ◌∷◌, append_assoc
 use Rattle.std.proofs.lemmas.List.{append-nil}
 use Rattle.std.proofs.lemmas.Result.{err_from_is_err_and}
 use Rattle.vf_lexer.specs.Tokens.{End, Piece_is, next_at, ended, passed, found, later}
+use Rattle.vf_lexer.proofs.Laws.{none_there}
 use Rattle.vf_lexer.proofs.Steps.{at_end, stops_here}
 use Rattle.vf_lexer.proofs.lexer.lex.Goals as goal
 
@@ -9,6 +10,11 @@ pub returns-in_err-token-clause-stops : goal.returns-in_err-token-clause-stops
 returns-in_err-token-clause-stops c =
     let p = err_from_is_err_and c.from_residual.result c.from_residual.ensures.1 in
     rw (p.1, p.2) (stops_here c.in_err-token.field-0.0 c.loop-cursor.cursor _ c.in_err-token.ensures.fault c.loop-cursor.invariant.stops)
+
+pub returns-in_err-token-clause-none : goal.returns-in_err-token-clause-none
+returns-in_err-token-clause-none c =
+    let p = err_from_is_err_and c.from_residual.result c.from_residual.ensures.1 in
+    rw (p.1, p.2) (none_there c.in_err-token.field-0.0 _ (stops_here c.in_err-token.field-0.0 c.loop-cursor.cursor _ c.in_err-token.ensures.fault c.loop-cursor.invariant.stops))
 
 pub loop-cursor-preserved-in-Continue-branch-3 : goal.loop-cursor-preserved-in-Continue-branch-3
 loop-cursor-preserved-in-Continue-branch-3 c =
