@@ -1,5 +1,5 @@
 -- The tokens of a text, with their bytes, places and ghost marks, and the place where a text has none.
-use Rattle.std.specs.Prelude.{◌≡◌, ℕ, zero, suc, ◌+◌, ◌-◌, ◌==◌, Bool, ◌||◌, if◌then◌else◌, nat_lt, List, [], ◌∷◌, take, drop, Option, Some, None, Result, Ok, Err}
+use Rattle.std.specs.Prelude.{◌≡◌, ℕ, zero, suc, ◌+◌, ◌-◌, ◌≤◌, ◌==◌, Bool, ◌||◌, if◌then◌else◌, nat_lt, List, [], ◌∷◌, take, drop, Option, Some, None, Result, Ok, Err}
 use Rattle.vf_base.specs.declared.place.Place.{Place}
 use Rattle.vf_lexer.specs.declared.fault.LexFault.{LexFault}
 use Rattle.vf_lexer.specs.declared.fault.LexFault.TheVariants as faults
@@ -102,3 +102,7 @@ pub data Stops : Spot → Place → Type 0 where
 abbrev pub IfLex : LexFault → (Place → Type 0) → Type 0
 IfLex (faults.Lex p) P = P p
 IfLex faults.Memory P = Unit {0}
+
+-- a token is the bytes of a text from its start to its end
+abbrev pub IsSlice : List ℕ → Token → Type 0
+IsSlice bytes token = (token.start ≤ token.«end») × (token.text ≡ take (token.«end» - token.start) (drop token.start bytes))

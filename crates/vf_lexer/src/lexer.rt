@@ -3,7 +3,8 @@
 ghost use Rattle.std.specs.Prelude.{◌≡◌, ◌≤◌, List, ℕ, length, IfOk, IfErr, Bool};
 ghost use Rattle.vf_base.specs.declared.place.Place.{Place};
 ghost use Rattle.vf_lexer.specs.declared.token.Token.{Token};
-ghost use Rattle.vf_lexer.specs.Tokens.{Gives, Stops, IfLex, beginning};
+ghost use Rattle.vf_lexer.specs.Tokens.{Gives, Stops, IfLex, IsSlice, beginning};
+ghost use Rattle.std.specs.List.{AllByRecursion};
 
 use crate::cursor::Cursor;
 use crate::fault::LexFault;
@@ -44,4 +45,10 @@ pub fn one_reading()
         → Stops (beginning header file bytes) p → Stops (beginning header file bytes) q → p ≡ q }
     ensures never_both { (header : Bool) (file : ℕ) (bytes : List ℕ) (tokens : List Token) (p : Place)
         → Gives (beginning header file bytes) tokens → Stops (beginning header file bytes) p → ⊥ }
+{}
+
+/// Each token is the bytes of its text from its start to its end.
+pub fn tokens_are_slices()
+    ensures { (header : Bool) (file : ℕ) (bytes : List ℕ) (tokens : List Token)
+        → Gives (beginning header file bytes) tokens → AllByRecursion (IsSlice bytes) tokens }
 {}

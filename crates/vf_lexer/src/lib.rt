@@ -15,7 +15,7 @@ mod punctuator;
 mod token;
 
 pub use fault::LexFault;
-pub use lexer::{lex, one_reading};
+pub use lexer::{lex, one_reading, tokens_are_slices};
 pub use punctuator::{Punctuator, longest_punctuator};
 pub use token::{Kind, Token, TokenList};
 
