@@ -1,0 +1,5 @@
+pub mod Laws
+pub mod Longest
+pub mod Sizes
+pub mod Slices
+pub mod Steps

@@ -1,0 +1,54 @@
+//! The tokens of a text.
+
+ghost use Rattle.std.specs.Prelude.{◌≡◌, ◌≤◌, List, ℕ, length, IfOk, IfErr, Bool};
+ghost use Rattle.vf_base.specs.declared.place.Place.{Place};
+ghost use Rattle.vf_lexer.specs.declared.token.Token.{Token};
+ghost use Rattle.vf_lexer.specs.Tokens.{Gives, Stops, IfLex, IsSlice, beginning};
+ghost use Rattle.std.specs.List.{AllByRecursion};
+
+use crate::cursor::Cursor;
+use crate::fault::LexFault;
+use crate::token::TokenList;
+use std::alloc::Global;
+use vf_base::Sequence;
+
+/// The tokens of a text of a file with this number. All are ghost where it is a ghost header.
+pub fn lex(
+    alloc: Global,
+    bytes: &[u8],
+    file: u32,
+    ghost_header: bool,
+) -> Result<TokenList, LexFault>
+    requires { length bytes.now ≤ 1048576 }
+    ensures gives { IfOk result (λ tokens. Gives (beginning ghost_header file bytes.now) tokens) }
+    ensures stops { IfErr result (λ e. IfLex e (λ p. Stops (beginning ghost_header file bytes.now) p)) }
+    ensures none { IfErr result (λ e. IfLex e (λ _. (tokens : List Token)
+        → Gives (beginning ghost_header file bytes.now) tokens → ⊥)) }
+{
+    let mut tokens = Sequence::new(alloc);
+    let mut cursor = Cursor::new(bytes, file, ghost_header);
+    while cursor.len() > 0 {
+        match cursor.next(alloc)? {
+            Some(token) => tokens.push(token)?,
+            None => {}
+        }
+    }
+    Ok(tokens)
+}
+
+/// A text has the tokens of one way to cut it, or one place where none starts or goes on, and never both.
+pub fn one_reading()
+    ensures tokens { (header : Bool) (file : ℕ) (bytes : List ℕ) (first second : List Token)
+        → Gives (beginning header file bytes) first → Gives (beginning header file bytes) second
+        → first ≡ second }
+    ensures places { (header : Bool) (file : ℕ) (bytes : List ℕ) (p q : Place)
+        → Stops (beginning header file bytes) p → Stops (beginning header file bytes) q → p ≡ q }
+    ensures never_both { (header : Bool) (file : ℕ) (bytes : List ℕ) (tokens : List Token) (p : Place)
+        → Gives (beginning header file bytes) tokens → Stops (beginning header file bytes) p → ⊥ }
+{}
+
+/// Each token is the bytes of its text from its start to its end.
+pub fn tokens_are_slices()
+    ensures { (header : Bool) (file : ℕ) (bytes : List ℕ) (tokens : List Token)
+        → Gives (beginning header file bytes) tokens → AllByRecursion (IsSlice bytes) tokens }
+{}

@@ -1,0 +1,23 @@
+//! The tokens of a text.
+//!
+//! A text is cut into pieces: tokens, blank space, comments, and the marks of annotations. [`lex`]
+//! gives the tokens of the one way to cut it, and where there is none the first byte at which it fails.
+#![tactic(auto)]
+
+mod class;
+mod cursor;
+mod fault;
+mod lexer;
+mod literal;
+mod number;
+mod piece;
+mod punctuator;
+mod token;
+
+pub use fault::LexFault;
+pub use lexer::{lex, one_reading, tokens_are_slices};
+pub use punctuator::{Punctuator, longest_punctuator};
+pub use token::{Kind, Token, TokenList};
+
+#[cfg(test)]
+mod tests;
