@@ -1,17 +1,17 @@
 -- The laws of values and of ghost expressions.
-use Rattle.std.proofs.Common.{◌≡◌, Bool, true, false, cond, not, ◌&&◌, ◌||◌, ◌==◌, refl, ap, ap₂, subst, ◌∙◌, inl, inr}
+use Rattle.std.proofs.Common.{◌≡◌, Bool, true, false, cond, not, ◌&&◌, ◌||◌, ◌==◌, refl, sym, ap, ap₂, subst, ◌∙◌, inl, inr}
 use Rattle.std.specs.Ordering.{int_eq}
 use Rattle.std.specs.Cmp.Lexicographic.{bytes_decides}
 use Rattle.std.proofs.lemmas.Bool.{false≢true, eqb-true, eq-eqb, and_parts, and_from}
 use Rattle.std.proofs.lemmas.Bool.Decides.{Decides-int_eq}
-use Rattle.vf_tree.specs.Core.{Divide, Remainder}
+use Rattle.vf_tree.specs.Core.{Identity, Divide, Remainder}
 use Rattle.vf_model.specs.Values.{Dyadic, Whole, Odd, Value, Values, none, more, number_of, same_truth}
 use Rattle.vf_model.specs.Values as values
 use Rattle.vf_meaning.specs.Ghost.{Name, Numbered, Result, This, CurrentThread, same_name, GhostExpression, GhostExpressions, no_expressions, and_expression, Variable, Number, Truth, Null, Function, Construct, Apply, PredicateValue, Claims, Negate, Arithmetic, PointerSum, Compare, Not, And, Or, Choose}
 use Rattle.vf_meaning.specs.Valuations.{Valuation, is_same, are_same, same_fraction, is_true, further}
 use Rattle.vf_meaning.specs.Names.{Uses, UsesAny}
 use Rattle.vf_meaning.specs.GhostValues.{Interpretation, value_of, values_of, computed, compared, claimed}
-use Rattle.vf_meaning.specs.ValueLaws.{TellsValues, TellsNames, ValuesAgree, DividesByNought}
+use Rattle.vf_meaning.specs.ValueLaws.{TellsClaims, TellsValues, TellsNames, ValuesAgree, DividesByNought}
 
 truth_told : (a b : Bool) → same_truth a b ≡ true → a ≡ b
 truth_told true true h = refl
@@ -121,3 +121,10 @@ divides_by_nought i v a b h = (
   ap (λ z. values.Number (computed Divide (number_of (value_of i v a)) z)) h,
   ap (λ z. values.Number (computed Remainder (number_of (value_of i v a)) z)) h,
 )
+
+claims_told : (i : Interpretation) (t : Identity) (w : Value) → claimed i t w ≡ true → (g : Identity) × (w ≡ values.Function g) × (i.claims g t ≡ true)
+claims_told i t (values.Function g) h = (g, refl, h)
+claims_told i t _ h = absurd (false≢true h)
+
+pub tells_claims : TellsClaims
+tells_claims i v t e = (λ h. claims_told i t (value_of i v e) h, λ c. subst (λ w. claimed i t w ≡ true) (sym c.1) c.2)

@@ -60,14 +60,14 @@ location_in _ c = None
 abbrev pub OwnsFor : Touch → Part → Location → Type 0
 OwnsFor touch p l = (c : Content) × MatchBool touch.writes (p l c ≡ whole) (IsPositive (p l c))
 
--- A share-out of a state: the parts sum to all of its memory; only threads that have not ended, or have ended and are not joined, and only free mutexes have a part;
+-- A share-out of a state: the parts sum to all of its memory; a thread other than main that has ended and has no handle has no part, since it was joined or was to leave nothing, and of the mutexes only the free ones have one;
 -- the part of a free mutex satisfies the mutex's predicate value; the part of a thread that has ended and has its handle satisfies what that thread was to leave;
 -- and a thread that can step owns what its next step touches
 pub record IsShareOut (e : Environment) (p : ProgramTree) (s : State) (o : ShareOut) : Type 0 where
   pub all : Part
   pub sums : SumsTo (parts_of s o) all
   pub fits : Fits all s.memory
-  pub joined : (t : ℕ) → Ended s t → ((b : ℕ) → IsHandleOf s b t → ⊥) → o.threads t ≡ nothing
+  pub joined : (t : ℕ) → t ≢ 0 → Ended s t → ((b : ℕ) → IsHandleOf s b t → ⊥) → o.threads t ≡ nothing
   pub held : (b : ℕ) → block_at s.memory b ≢ Some (Mutex None) → o.mutexes b ≡ nothing
   pub free : (b : ℕ) (q : Value) → block_at s.memory b ≡ Some (Mutex None) → IsPositive (all (MutexAt b) (MutexOf q)) → SatisfiesInvariant e q (o.mutexes b)
   pub left : (b t : ℕ) (run : Identity) (argument info : Value)

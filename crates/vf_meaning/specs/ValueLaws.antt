@@ -1,10 +1,10 @@
 -- Laws of values and ghost expressions. Each is the contract of a public function with an empty body.
 use Rattle.std.specs.Prelude.{◌≡◌, pos, ◌↔◌, IsTrue}
-use Rattle.vf_tree.specs.Core.{Divide, Remainder}
+use Rattle.vf_tree.specs.Core.{Identity, Divide, Remainder}
 use Rattle.vf_model.specs.Values.{Value, number_of}
 use Rattle.vf_model.specs.Values as values
-use Rattle.vf_meaning.specs.Ghost.{Name, same_name, GhostExpression, Arithmetic}
-use Rattle.vf_meaning.specs.Valuations.{Valuation, is_same}
+use Rattle.vf_meaning.specs.Ghost.{Name, same_name, GhostExpression, Arithmetic, Claims}
+use Rattle.vf_meaning.specs.Valuations.{Valuation, is_true, is_same}
 use Rattle.vf_meaning.specs.Names.{Uses}
 use Rattle.vf_meaning.specs.GhostValues.{Interpretation, value_of}
 
@@ -25,3 +25,9 @@ abbrev pub DividesByNought : Type 0
 DividesByNought =
     (i : Interpretation) (v : Valuation) (a b : GhostExpression) → number_of (value_of i v b) ≡ pos 0
     → (value_of i v (Arithmetic Divide a b) ≡ values.Number (pos 0)) × (value_of i v (Arithmetic Remainder a b) ≡ values.Number (pos 0))
+
+-- a claim on a value is true just where the value is a function whose declaration claims that function type
+abbrev pub TellsClaims : Type 0
+TellsClaims =
+    (i : Interpretation) (v : Valuation) (t : Identity) (e : GhostExpression)
+    → IsTrue (is_true (value_of i v (Claims t e))) ↔ ((g : Identity) × (value_of i v e ≡ values.Function g) × IsTrue (i.claims g t))

@@ -27,4 +27,4 @@ pub use satisfaction_laws::{
     cells_join, declarations_grow, depth_falls, depth_grows, halves_split, names_agree,
     satisfying_is_consistent, scales_split,
 };
-pub use value_laws::{divides_by_nought, tells_names, tells_values, values_agree};
+pub use value_laws::{divides_by_nought, tells_claims, tells_names, tells_values, values_agree};
