@@ -1,4 +1,5 @@
 use super::*;
+use std::alloc::Global;
 use std::test::Fail;
 use vf_base::{IntType, Place};
 
@@ -10,6 +11,14 @@ fn at(line: u32, column: u32) -> Option<LexFault> {
         line,
         column,
     }))
+}
+
+/// The tokens of a short text.
+fn read(alloc: Global, text: &[u8], header: bool) -> Result<TokenList, LexFault> {
+    if text.len() > 100 {
+        return Err(LexFault::Memory);
+    }
+    lex(alloc, text, FILE, header)
 }
 
 /// Texts, whether each is a ghost header, and their tokens: bytes, line, column and ghost mark.
@@ -78,12 +87,16 @@ fn tokens_and_places(rt: HostRuntime) -> Result<(), Fail> {
             .as_slice(),
         ),
     ] {
-        let read = lex(rt.alloc(), text.as_bytes(), FILE, header)?;
-        assert_eq!(rt; read.len(), tokens.len(), "at {text}");
-        for (token, (bytes, line, column, ghost_mark)) in read.as_slice().iter().zip(tokens) {
+        let tokens_read = read(rt.alloc(), text.as_bytes(), header)?;
+        assert_eq!(rt; tokens_read.len(), tokens.len(), "at {text}");
+        for (token, (bytes, line, column, ghost_mark)) in tokens_read
+            .as_slice()
+            .iter()
+            .zip(tokens)
+        {
             assert_eq!(rt; token.text.as_bytes(), bytes.as_bytes(), "at {text}");
             assert_eq!(rt;
-                (token.end - token.start) as usize,
+                token.end.saturating_sub(token.start) as usize,
                 bytes.len(),
                 "at {text}"
             );
@@ -161,9 +174,9 @@ fn kinds(rt: HostRuntime) -> Result<(), Fail> {
             },
         ),
     ] {
-        let read = lex(rt.alloc(), text.as_bytes(), FILE, header)?;
-        assert_eq!(rt; read.len(), 1, "at {text}");
-        let token = read.get(0).ok_or("no token")?;
+        let tokens_read = read(rt.alloc(), text.as_bytes(), header)?;
+        assert_eq!(rt; tokens_read.len(), 1, "at {text}");
+        let token = tokens_read.get(0).ok_or("no token")?;
         assert_eq!(rt; token.kind, kind, "at {text}");
     }
     Ok(())
@@ -201,7 +214,7 @@ fn refusals(rt: HostRuntime) {
         ("//@ a ++ ~", false, 1, 10),
         (".", true, 1, 1),
     ] {
-        let fault = lex(rt.alloc(), text.as_bytes(), FILE, header).err();
+        let fault = read(rt.alloc(), text.as_bytes(), header).err();
         assert_eq!(rt; fault, at(line, column), "at {text}");
     }
 }
