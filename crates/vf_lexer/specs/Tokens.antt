@@ -106,3 +106,12 @@ IfLex faults.Memory P = Unit {0}
 -- a token is the bytes of a text from its start to its end
 abbrev pub IsSlice : List ℕ → Token → Type 0
 IsSlice bytes token = (token.start ≤ token.«end») × (token.text ≡ take (token.«end» - token.start) (drop token.start bytes))
+
+-- the place behind some bytes, from a place on
+abbrev pub place_after : Place → List ℕ → Place
+place_after p [] = p
+place_after p (b ∷ bs) = place_after (place_behind p b) bs
+
+-- a token's place is the one behind all bytes of the text before its start, from the first line and column on
+abbrev pub IsPlaced : ℕ → List ℕ → Token → Type 0
+IsPlaced file bytes token = token.place ≡ place_after (record { file = file; line = 1; column = 1 }) (take token.start bytes)

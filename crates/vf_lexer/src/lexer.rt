@@ -3,7 +3,7 @@
 ghost use Rattle.std.specs.Prelude.{◌≡◌, ◌≤◌, List, ℕ, length, IfOk, IfErr, Bool};
 ghost use Rattle.vf_base.specs.declared.place.Place.{Place};
 ghost use Rattle.vf_lexer.specs.declared.token.Token.{Token};
-ghost use Rattle.vf_lexer.specs.Tokens.{Gives, Stops, IfLex, IsSlice, beginning};
+ghost use Rattle.vf_lexer.specs.Tokens.{Gives, Stops, IfLex, IsSlice, IsPlaced, beginning};
 ghost use Rattle.std.specs.List.{AllByRecursion};
 
 use crate::cursor::Cursor;
@@ -51,4 +51,10 @@ pub fn one_reading()
 pub fn tokens_are_slices()
     ensures { (header : Bool) (file : ℕ) (bytes : List ℕ) (tokens : List Token)
         → Gives (beginning header file bytes) tokens → AllByRecursion (IsSlice bytes) tokens }
+{}
+
+/// Each token's place is counted from the beginning of its text.
+pub fn tokens_have_their_places()
+    ensures { (header : Bool) (file : ℕ) (bytes : List ℕ) (tokens : List Token)
+        → Gives (beginning header file bytes) tokens → AllByRecursion (IsPlaced file bytes) tokens }
 {}

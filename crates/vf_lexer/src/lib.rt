@@ -15,7 +15,7 @@ mod punctuator;
 mod token;
 
 pub use fault::LexFault;
-pub use lexer::{lex, one_reading, tokens_are_slices};
+pub use lexer::{lex, one_reading, tokens_are_slices, tokens_have_their_places};
 pub use punctuator::{Punctuator, longest_punctuator};
 pub use token::{Kind, Token, TokenList};
 
