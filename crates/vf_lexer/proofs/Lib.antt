@@ -3,3 +3,11 @@ pub mod Longest
 pub mod Sizes
 pub mod Slices
 pub mod Steps
+pub mod Walks
+pub mod Faults
+pub mod Cutting
+pub mod Stepping
+pub mod Runs
+pub mod Found
+pub mod Lexemes
+pub mod Bodies

@@ -32,9 +32,17 @@ pub and_left : (a b : Bool) → (a && b) ≡ true → a ≡ true
 and_left true b h = refl
 and_left false b h = absurd cc
 
-or_case : {P : Type 0} (a b : Bool) → (a || b) ≡ true → (a ≡ true → P) → (b ≡ true → P) → P
+pub or_case : {P : Type 0} (a b : Bool) → (a || b) ≡ true → (a ≡ true → P) → (b ≡ true → P) → P
 or_case true b h k l = k refl
 or_case false b h k l = l h
+
+pub or_left_no : (a b : Bool) → (a || b) ≡ false → a ≡ false
+or_left_no true b h = absurd cc
+or_left_no false b h = refl
+
+pub or_right_no : (a b : Bool) → (a || b) ≡ false → b ≡ false
+or_right_no true b h = absurd cc
+or_right_no false b h = h
 
 pub and_right : (a b : Bool) → (a && b) ≡ true → b ≡ true
 and_right true b h = h
@@ -51,7 +59,7 @@ starts_fits text front h = omega (arith, pointwise_length front (take (length fr
 
 -- ---- tokens
 
-FrontFits : ℕ → Front → Type 0
+unfoldable pub FrontFits : ℕ → Front → Type 0
 FrontFits most None = Unit {0}
 FrontFits most (Some x) = (0 < x.1) × (x.1 ≤ most)
 
@@ -124,7 +132,7 @@ unfolding punctuator_of
 punctuator_fits true text = longest_fits ghost_punctuators text refl
 punctuator_fits false text = longest_fits real_punctuators text refl
 
-token_fits : (ghost : Bool) (text : List ℕ) → FrontFits (length text) (token_front ghost text)
+pub token_fits : (ghost : Bool) (text : List ℕ) → FrontFits (length text) (token_front ghost text)
 unfolding token_front FrontFits
 token_fits ghost [] = tt
 token_fits ghost (b ∷ bs) = let P = FrontFits (length (b ∷ bs)) in

@@ -9,7 +9,9 @@ use Rattle.vf_lexer.specs.declared.piece.Shape.{Shape}
 use Rattle.vf_lexer.specs.declared.piece.Shape.TheVariants as shapes
 use Rattle.vf_lexer.specs.declared.piece.Piece.{Piece}
 use Rattle.vf_lexer.specs.Bytes.{is_barred}
-use Rattle.vf_lexer.specs.Tokens.{place_behind, place_after, IsPlaced, Spot, Piece_is, walk, token_of, spot_behind, next_walked, next_piece, next_in, piece_at, next_at, Gives, ended, passed, found, IsSlice}
+use Rattle.vf_lexer.specs.Tokens.{place_behind, place_after, IsPlaced, Spot, Piece_is, walk, token_of, spot_behind, next_walked, next_piece, next_in, piece_at, next_at, IsSlice}
+use Rattle.vf_lexer.specs.Cuts.{with_first}
+use Rattle.vf_lexer.proofs.Runs.{Gives, ended, passed}
 
 -- a token that stands here is so many bytes
 IsFront : Spot → ℕ → Token → Type 0
@@ -71,10 +73,19 @@ is_slice bytes s k t h e =
     let rest : take h.size s.text ≡ take h.size (drop k.start bytes) = ap (take h.size) (e ∙ ap (λ n. drop n bytes) (sym front.0)) in
     (omega (arith, front.0, front.1), front.2 ∙ rest ∙ ap (λ n. take n (drop k.start bytes)) (sym size))
 
+with_all : (P : Token → Type 0) (x : Option Token) (tokens : List Token) → IfSome x P → AllByRecursion P tokens → AllByRecursion P (with_first x tokens)
+with_all P None tokens h k = k
+with_all P (Some t) tokens h k = (h, k)
+
+slice_if : (bytes : List ℕ) (s : Spot) (x : Option Token) (t : Spot) → Step s x t → s.text ≡ drop s.start bytes → IfSome x (IsSlice bytes)
+slice_if bytes s None t h e = tt
+slice_if bytes s (Some k) t h e = is_slice bytes s k t h e
+
 pub slices : (bytes : List ℕ) {s : Spot} {tokens : List Token} → Gives s tokens → s.text ≡ drop s.start bytes → AllByRecursion (IsSlice bytes) tokens
 slices bytes (ended e) h = tt
-slices bytes (passed {s = s} {t = t} e g) h = slices bytes g (further bytes s None t (step s None t e) h)
-slices bytes (found {s = s} {t = t} {token = k} e g) h = (is_slice bytes s k t (step s (Some k) t e) h, slices bytes g (further bytes s (Some k) t (step s (Some k) t e) h))
+slices bytes (passed {s = s} {t = t} {x = x} {tokens = tokens} e g) h =
+    let taken = step s x t e in
+    with_all (IsSlice bytes) x tokens (slice_if bytes s x t taken h) (slices bytes g (further bytes s x t taken h))
 
 take_none : (p : Place) (b : ℕ) → place_after p (take b []) ≡ p
 take_none p zero = refl
@@ -100,12 +111,15 @@ is_placed file bytes s k t h f =
     let front = h.token in
     front.3 ∙ f ∙ ap (λ n. place_after (record { file = file; line = 1; column = 1 }) (take n bytes)) (sym front.0)
 
+placed_if : (file : ℕ) (bytes : List ℕ) (s : Spot) (x : Option Token) (t : Spot) → Step s x t
+    → s.place ≡ place_after (record { file = file; line = 1; column = 1 }) (take s.start bytes) → IfSome x (IsPlaced file bytes)
+placed_if file bytes s None t h f = tt
+placed_if file bytes s (Some k) t h f = is_placed file bytes s k t h f
+
 pub places : (file : ℕ) (bytes : List ℕ) {s : Spot} {tokens : List Token} → Gives s tokens → s.text ≡ drop s.start bytes
     → s.place ≡ place_after (record { file = file; line = 1; column = 1 }) (take s.start bytes) → AllByRecursion (IsPlaced file bytes) tokens
 places file bytes (ended e) h f = tt
-places file bytes (passed {s = s} {t = t} e g) h f =
-    let taken = step s None t e in
-    places file bytes g (further bytes s None t taken h) (further_place (record { file = file; line = 1; column = 1 }) bytes s None t taken h f)
-places file bytes (found {s = s} {t = t} {token = k} e g) h f =
-    let taken = step s (Some k) t e in
-    (is_placed file bytes s k t taken f, places file bytes g (further bytes s (Some k) t taken h) (further_place (record { file = file; line = 1; column = 1 }) bytes s (Some k) t taken h f))
+places file bytes (passed {s = s} {t = t} {x = x} {tokens = tokens} e g) h f =
+    let taken = step s x t e in
+    with_all (IsPlaced file bytes) x tokens (placed_if file bytes s x t taken f)
+    (places file bytes g (further bytes s x t taken h) (further_place (record { file = file; line = 1; column = 1 }) bytes s x t taken h f))

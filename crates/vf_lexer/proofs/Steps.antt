@@ -9,9 +9,7 @@ use Rattle.std.proofs.lemmas.Bool.Decides.{nat_tests}
 use Rattle.vf_base.specs.declared.place.Place.{Place}
 use Rattle.vf_lexer.specs.Bytes.{is_barred}
 use Rattle.vf_lexer.specs.Numbers.{value_of, digits_len}
-use Rattle.vf_lexer.specs.declared.fault.LexFault.{LexFault}
-use Rattle.vf_lexer.specs.declared.fault.LexFault.TheVariants as faults
-use Rattle.vf_lexer.specs.Tokens.{walk, place_behind, Spot, End, Fault, next_in, next_at, Stops, here, IfLex}
+use Rattle.vf_lexer.specs.Tokens.{walk, place_behind, Spot, End, next_in, next_at}
 
 walk_step : (p : Place) (n b : ℕ) (bs : List ℕ) → 0 < n → is_barred (b ∷ bs) ≡ false → walk p n (b ∷ bs) ≡ walk (place_behind p b) (n - 1) bs
 walk_step p zero b bs h e = absurd (omega arith)
@@ -59,7 +57,3 @@ end_in s (b ∷ bs) h = absurd (omega arith)
 pub at_end : (s : Spot) → length s.text ≤ 0 → next_at s ≡ End
 unfolding next_at
 at_end s h = end_in s s.text h
-
-pub stops_here : (e : LexFault) (s start : Spot) → IfLex e (λ p. next_at s ≡ Fault p) → ((p : Place) → Stops s p → Stops start p) → IfLex e (λ p. Stops start p)
-stops_here (faults.Lex p) s start h earlier = earlier p (here h)
-stops_here faults.Memory s start h earlier = tt

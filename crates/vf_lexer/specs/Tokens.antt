@@ -87,17 +87,6 @@ next_in s (b ∷ bs) = next_piece s (piece_at s)
 unfoldable pub next_at : Spot → Next
 next_at s = next_in s s.text
 
--- the rest of a text is pieces, of which these are the tokens
-pub data Gives : Spot → List Token → Type 0 where
-  ended : {s : Spot} → next_at s ≡ End → Gives s []
-  passed : {s t : Spot} {tokens : List Token} → next_at s ≡ Piece_is None t → Gives t tokens → Gives s tokens
-  found : {s t : Spot} {token : Token} {tokens : List Token} → next_at s ≡ Piece_is (Some token) t → Gives t tokens → Gives s (token ∷ tokens)
-
--- the rest of a text is pieces up to a place, where none can start or go on
-pub data Stops : Spot → Place → Type 0 where
-  here : {s : Spot} {p : Place} → next_at s ≡ Fault p → Stops s p
-  later : {s t : Spot} {token : Option Token} {p : Place} → next_at s ≡ Piece_is token t → Stops t p → Stops s p
-
 -- where a fault is a place at which no token stands, a fact of that place
 abbrev pub IfLex : LexFault → (Place → Type 0) → Type 0
 IfLex (faults.Lex p) P = P p

@@ -3,7 +3,8 @@
 ghost use Rattle.std.specs.Prelude.{◌≡◌, ◌≤◌, List, ℕ, length, IfOk, IfErr, Bool};
 ghost use Rattle.vf_base.specs.declared.place.Place.{Place};
 ghost use Rattle.vf_lexer.specs.declared.token.Token.{Token};
-ghost use Rattle.vf_lexer.specs.Tokens.{Gives, Stops, IfLex, IsSlice, IsPlaced, beginning};
+ghost use Rattle.vf_lexer.specs.Tokens.{IfLex, IsSlice, IsPlaced};
+ghost use Rattle.vf_lexer.specs.Cuts.{HasTokens, HasFault};
 ghost use Rattle.std.specs.List.{AllByRecursion};
 
 use crate::cursor::Cursor;
@@ -20,10 +21,10 @@ pub fn lex(
     ghost_header: bool,
 ) -> Result<TokenList, LexFault>
     requires { length bytes.now ≤ 1048576 }
-    ensures gives { IfOk result (λ tokens. Gives (beginning ghost_header file bytes.now) tokens) }
-    ensures stops { IfErr result (λ e. IfLex e (λ p. Stops (beginning ghost_header file bytes.now) p)) }
+    ensures tokens { IfOk result (λ tokens. HasTokens ghost_header file bytes.now tokens) }
+    ensures fault { IfErr result (λ e. IfLex e (λ p. HasFault ghost_header file bytes.now p)) }
     ensures none { IfErr result (λ e. IfLex e (λ _. (tokens : List Token)
-        → Gives (beginning ghost_header file bytes.now) tokens → ⊥)) }
+        → HasTokens ghost_header file bytes.now tokens → ⊥)) }
 {
     let mut tokens = Sequence::new(alloc);
     let mut cursor = Cursor::new(bytes, file, ghost_header);
@@ -36,25 +37,24 @@ pub fn lex(
     Ok(tokens)
 }
 
-/// A text has the tokens of one way to cut it, or one place where none starts or goes on, and never both.
+/// A text has the tokens of one cut, or one first byte at which nothing can start or go on, and never both.
 pub fn one_reading()
     ensures tokens { (header : Bool) (file : ℕ) (bytes : List ℕ) (first second : List Token)
-        → Gives (beginning header file bytes) first → Gives (beginning header file bytes) second
-        → first ≡ second }
+        → HasTokens header file bytes first → HasTokens header file bytes second → first ≡ second }
     ensures places { (header : Bool) (file : ℕ) (bytes : List ℕ) (p q : Place)
-        → Stops (beginning header file bytes) p → Stops (beginning header file bytes) q → p ≡ q }
+        → HasFault header file bytes p → HasFault header file bytes q → p ≡ q }
     ensures never_both { (header : Bool) (file : ℕ) (bytes : List ℕ) (tokens : List Token) (p : Place)
-        → Gives (beginning header file bytes) tokens → Stops (beginning header file bytes) p → ⊥ }
+        → HasTokens header file bytes tokens → HasFault header file bytes p → ⊥ }
 {}
 
 /// Each token is the bytes of its text from its start to its end.
 pub fn tokens_are_slices()
     ensures { (header : Bool) (file : ℕ) (bytes : List ℕ) (tokens : List Token)
-        → Gives (beginning header file bytes) tokens → AllByRecursion (IsSlice bytes) tokens }
+        → HasTokens header file bytes tokens → AllByRecursion (IsSlice bytes) tokens }
 {}
 
 /// Each token's place is counted from the beginning of its text.
 pub fn tokens_have_their_places()
     ensures { (header : Bool) (file : ℕ) (bytes : List ℕ) (tokens : List Token)
-        → Gives (beginning header file bytes) tokens → AllByRecursion (IsPlaced file bytes) tokens }
+        → HasTokens header file bytes tokens → AllByRecursion (IsPlaced file bytes) tokens }
 {}

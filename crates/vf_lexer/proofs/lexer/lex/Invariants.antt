@@ -1,7 +1,8 @@
 use Rattle.std.proofs.Common.{◌++◌, List, length}
 use Rattle.vf_base.specs.declared.place.Place.{Place}
 use Rattle.vf_lexer.specs.declared.token.Token.{Token}
-use Rattle.vf_lexer.specs.Tokens.{Gives, Stops, beginning}
+use Rattle.vf_lexer.specs.Tokens.{beginning}
+use Rattle.vf_lexer.proofs.Runs.{Gives, Stops}
 use Rattle.vf_lexer.proofs.lexer.lex.Given as goal
 
 abbrev pub invariant-loop-cursor : goal.invariant-loop-cursor
