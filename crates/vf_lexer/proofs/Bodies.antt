@@ -1,8 +1,8 @@
 -- Where comments and annotations end.
-use Rattle.std.proofs.Common.{◌≡◌, ◌⊎◌, ℕ, zero, suc, ◌+◌, ◌-◌, ◌<◌, ◌≤◌, Bool, true, false, cond, List, [], ◌∷◌, ◌++◌, length, take, drop, Option, Some, None, refl, sym, ap, subst, ◌∙◌, arith}
+use Rattle.std.proofs.Common.{◌≡◌, ℕ, zero, suc, ◌+◌, Bool, true, false, List, [], ◌∷◌, ◌++◌, length, take, drop, Some, refl, sym, ap, arith}
 use Rattle.std.specs.Prelude.{nat_eq, not, ◌&&◌, codes, if◌then◌else◌}
 use Rattle.std.specs.Cmp.Lexicographic.{pointwise}
-use Rattle.std.specs.List.{starts_with, list_all, prefix_len}
+use Rattle.std.specs.List.{starts_with, list_all}
 use Rattle.std.proofs.lemmas.Bool.{eqb-true}
 use Rattle.vf_lexer.specs.declared.class.Class.TheVariants as classes
 use Rattle.vf_lexer.specs.Bytes.{is_in_line}
@@ -101,13 +101,18 @@ pub record ClosedSplit (n : ℕ) (text : List ℕ) (k : ℕ) : Type 0 where
 
 closed_by : (n b : ℕ) (bs : List ℕ) (k : ℕ) (t : Bool) → starts_with nat_eq (b ∷ bs) (codes "*/") ≡ t → (ended_from (n + 1) bs ≡ Some k → ClosedSplit (n + 1) bs k) → (if t then Some (n + 2) else ended_from (n + 1) bs) ≡ Some k → ClosedSplit n (b ∷ bs) k
 closed_by n b bs k true h later e = record {
-    body = []; rest = drop 2 (b ∷ bs); whole = front_of (b ∷ bs) (codes "*/") h; unclosed = tt;
-    count = let same : n + 2 ≡ k = cc in omega arith;
-  }
+  body = [];
+  rest = drop 2 (b ∷ bs);
+  whole = front_of (b ∷ bs) (codes "*/") h;
+  unclosed = tt;
+  count = let same : n + 2 ≡ k = cc in omega arith;
+}
 closed_by n b bs k false h later e =
     let s = later e in
     record {
-      body = b ∷ s.body; rest = s.rest; whole = ap (λ x. b ∷ x) s.whole;
+      body = b ∷ s.body;
+      rest = s.rest;
+      whole = ap (λ x. b ∷ x) s.whole;
       unclosed = (front_unclosed b s.body (codes "*/" ++ s.rest) (rw (sym (parts s.body s.rest), sym s.whole) h), s.unclosed);
       count = let c = s.count in omega arith;
     }

@@ -1,18 +1,14 @@
 -- The code's tokens are those of the one way to cut a text, and it stops at the first byte at which nothing can start or go on.
-use Rattle.std.proofs.Common.{◌≡◌, ◌⊎◌, inl, inr, ℕ, zero, suc, ◌+◌, ◌-◌, ◌<◌, ◌≤◌, Bool, true, false, List, [], ◌∷◌, ◌++◌, length, take, drop, Option, Some, None, refl, sym, ap, ap₂, subst, ◌∙◌, arith, append_assoc, append-nil}
+use Rattle.std.proofs.Common.{◌≡◌, ◌⊎◌, inl, inr, ℕ, Bool, true, false, List, [], ◌∷◌, ◌++◌, length, Option, Some, None, refl, sym, ap, ap₂, subst, ◌∙◌, arith, append_assoc, append-nil}
 use Rattle.std.proofs.lemmas.List.{length-append}
-use Rattle.std.proofs.Math.Seq.{take-append-add, drop-append-add, drop-append_seam, take-append_seam}
-use Rattle.vf_base.specs.declared.place.Place.{Place}
 use Rattle.vf_lexer.specs.declared.token.Token.{Token}
-use Rattle.vf_lexer.specs.Bytes.{is_barred}
 use Rattle.vf_lexer.specs.Pieces.{outside}
-use Rattle.vf_lexer.specs.Tokens.{Spot, Fault, Piece_is, place_after, next_at, piece_at, beginning}
-use Rattle.vf_lexer.specs.Cuts.{Setting, Real, Inside, Header, setting_of, Lexeme, bytes_of, text_of, Form, Line_form, Block_form, opening_mark, closing_mark, Element, Plain, Annotation, element_bytes, whole_text, Stands, AllStand, Opens, ElementStands, ElementsStand, IsCut, first_place, token_in, with_first, tokens_in, element_tokens, tokens_of, HasTokens, NoLexeme, NoAnnotation, StuckOutside, StuckInside, IsFaulty, FailsBehind, HasFault}
-use Rattle.vf_lexer.proofs.Walks.{CleanBelow, FirstBarred, clean_less, clean_at, clean_append, clean_rest, clean_everywhere, clean_from, place_append, same_place_none}
-use Rattle.vf_lexer.proofs.Runs.{Gives, ended, passed, Stops, here, later, Reaches, reach_first, spot_of, region_of, lexeme_some, step_open, clean_both, lexemes_reach, elements_reach}
-use Rattle.vf_lexer.proofs.Stepping.{end_none, Halts, no_piece, in_piece, halts, PlainStep, OpenStep, real_step, header_step, InsideStep, inside_step, close_step, no_lexeme, no_annotation, fault_outside, fault_inside}
+use Rattle.vf_lexer.specs.Tokens.{Spot, Piece_is, next_at, beginning}
+use Rattle.vf_lexer.specs.Cuts.{Real, Inside, Header, Lexeme, bytes_of, text_of, Form, Line_form, Block_form, opening_mark, closing_mark, Element, Plain, Annotation, element_bytes, whole_text, Stands, AllStand, Opens, ElementsStand, token_in, with_first, tokens_in, tokens_of, HasTokens}
+use Rattle.vf_lexer.proofs.Walks.{CleanBelow, clean_append, clean_everywhere, clean_from}
+use Rattle.vf_lexer.proofs.Runs.{Gives, ended, passed, spot_of, region_of, lexeme_some, elements_reach}
+use Rattle.vf_lexer.proofs.Stepping.{end_none, PlainStep, OpenStep, real_step, header_step, InsideStep, inside_step, close_step}
 use Rattle.vf_lexer.proofs.Steps.{at_end}
-use Rattle.vf_lexer.proofs.Laws.{same_tokens, same_place, never_both}
 
 -- ---- a cut text gives its tokens
 
@@ -89,7 +85,7 @@ inside_next : (file : ℕ) (before body close after : List ℕ) (x : Option Toke
 inside_next file before body close after x t tokens s more =
     let bare : s.rest ≡ text_of more.lexemes ++ [] = more.body_is ∙ sym (append-nil (text_of more.lexemes)) in
     let front : (before ++ bytes_of s.lexeme) ++ (s.rest ++ close) ≡ before ++ (body ++ close) =
-        append_assoc before (bytes_of s.lexeme) (s.rest ++ close) ∙ ap (λ r. before ++ r) (sym (append_assoc (bytes_of s.lexeme) s.rest close) ∙ ap (λ r. r ++ close) (sym s.whole)) in
+    append_assoc before (bytes_of s.lexeme) (s.rest ++ close) ∙ ap (λ r. before ++ r) (sym (append_assoc (bytes_of s.lexeme) s.rest close) ∙ ap (λ r. r ++ close) (sym s.whole)) in
     record {
       lexemes = s.lexeme ∷ more.lexemes;
       elements = more.elements;
@@ -104,15 +100,15 @@ inside_next file before body close after x t tokens s more =
 
 close_next : (file : ℕ) (before close after : List ℕ) (x : Option Token) (tokens : List Token) → CleanBelow (length close) (close ++ after) → x ≡ None → RealCut file (before ++ close) [] [] after tokens → RealCut file before [] close after (with_first x tokens)
 close_next file before close after x tokens clean none more = record {
-    lexemes = [];
-    elements = more.elements;
-    body_is = refl;
-    body_stands = tt;
-    after_is = more.after_is;
-    after_stands = more.after_stands;
-    clean = clean_step close after clean more.clean;
-    same = rw none (tokens_outside file (before ++ close) tokens after more);
-  }
+  lexemes = [];
+  elements = more.elements;
+  body_is = refl;
+  body_stands = tt;
+  after_is = more.after_is;
+  after_stands = more.after_stands;
+  clean = clean_step close after clean more.clean;
+  same = rw none (tokens_outside file (before ++ close) tokens after more);
+}
 
 plain_next : (file : ℕ) (before text : List ℕ) (x : Option Token) (t : Spot) (tokens : List Token) (s : PlainStep false file before text x t) → RealCut file (before ++ bytes_of s.lexeme) [] [] s.rest tokens → RealCut file before [] [] text (with_first x tokens)
 plain_next file before text x t tokens s more =

@@ -1,7 +1,7 @@
 -- The code stops at the first byte at which nothing can start or go on.
-use Rattle.std.proofs.Common.{◌≡◌, ◌⊎◌, inl, inr, ℕ, zero, suc, ◌+◌, ◌-◌, ◌<◌, ◌≤◌, Bool, true, false, List, [], ◌∷◌, ◌++◌, length, take, drop, Option, Some, None, refl, sym, ap, ap₂, subst, ◌∙◌, arith, append_assoc, append-nil}
+use Rattle.std.proofs.Common.{◌≡◌, ◌⊎◌, inl, inr, ℕ, zero, suc, ◌+◌, ◌-◌, ◌<◌, Bool, true, false, List, [], ◌∷◌, ◌++◌, length, take, drop, Option, Some, None, refl, sym, ap, ap₂, subst, ◌∙◌, arith, append_assoc, append-nil}
 use Rattle.std.proofs.lemmas.List.{length-append}
-use Rattle.std.proofs.Math.Seq.{take-append-add, drop-append-add, take-append_seam}
+use Rattle.std.proofs.Math.Seq.{take-append-add, drop-append-add}
 use Rattle.vf_base.specs.declared.place.Place.{Place}
 use Rattle.vf_lexer.specs.declared.token.Token.{Token}
 use Rattle.vf_lexer.specs.declared.fault.LexFault.{LexFault}
@@ -9,10 +9,10 @@ use Rattle.vf_lexer.specs.declared.fault.LexFault.TheVariants as faults
 use Rattle.vf_lexer.specs.Bytes.{is_barred}
 use Rattle.vf_lexer.specs.Pieces.{outside, inner_piece}
 use Rattle.vf_lexer.specs.Numbers.{◌>>=◌}
-use Rattle.vf_lexer.specs.Tokens.{Spot, Fault, Piece_is, place_after, next_at, piece_at, beginning, inside_of, IfLex}
-use Rattle.vf_lexer.specs.Cuts.{Setting, Real, Inside, Header, setting_of, Lexeme, bytes_of, text_of, Form, Line_form, Block_form, opening_mark, closing_mark, Element, Plain, Annotation, element_bytes, whole_text, Stands, AllStand, Opens, ElementStands, ElementsStand, IsCut, first_place, HasTokens, NoLexeme, NoAnnotation, StuckOutside, StuckInside, IsFaulty, FailsBehind, HasFault}
-use Rattle.vf_lexer.proofs.Walks.{CleanBelow, FirstBarred, clean_less, clean_at, clean_append, clean_rest, clean_from, place_append, same_place_none}
-use Rattle.vf_lexer.proofs.Runs.{Gives, ended, passed, Stops, here, later, Reaches, reach_first, spot_of, region_of, step_open, clean_both, lexemes_reach, elements_reach, piece_inside, piece_close, piece_outside}
+use Rattle.vf_lexer.specs.Tokens.{Spot, Fault, Piece_is, place_after, next_at, beginning, inside_of, IfLex}
+use Rattle.vf_lexer.specs.Cuts.{Real, Inside, setting_of, Lexeme, bytes_of, text_of, Form, Line_form, Block_form, opening_mark, closing_mark, Element, Plain, Annotation, element_bytes, whole_text, Stands, AllStand, Opens, ElementStands, first_place, HasTokens, NoLexeme, StuckOutside, StuckInside, IsFaulty, HasFault}
+use Rattle.vf_lexer.proofs.Walks.{CleanBelow, clean_less, clean_at, clean_append, clean_from, place_append, same_place_none}
+use Rattle.vf_lexer.proofs.Runs.{Stops, here, later, spot_of, region_of, step_open, clean_both, lexemes_reach, elements_reach, piece_inside, piece_close, piece_outside}
 use Rattle.vf_lexer.proofs.Stepping.{Halts, no_piece, in_piece, halts, PlainStep, OpenStep, real_step, header_step, InsideStep, inside_step, close_step, no_lexeme, no_annotation, fault_outside, fault_inside}
 use Rattle.vf_lexer.proofs.Laws.{same_place, never_both}
 use Rattle.vf_lexer.proofs.Cutting.{cut_gives, append_none, clean_open, annotation_bytes}
@@ -95,14 +95,14 @@ none_before h file bytes n clean stops k less (inr (inr e)) = true_and_false (is
 
 more_outside : (h : Bool) (e : Element) (rest : List ℕ) (n : ℕ) → ElementStands (setting_of h) e rest → StuckOutside h rest n → StuckOutside h (element_bytes e ++ rest) (length (element_bytes e) + n)
 more_outside h e rest n stands s = record {
-    elements = e ∷ s.elements;
-    rest = s.rest;
-    whole = ap (λ r. element_bytes e ++ r) s.whole ∙ sym (append_assoc (element_bytes e) (whole_text s.elements) s.rest);
-    stand = (subst (λ r. ElementStands (setting_of h) e r) s.whole stands, s.stand);
-    none = s.none;
-    no_annotation = s.no_annotation;
-    count = let c = s.count in let len = length-append (element_bytes e) (whole_text s.elements) in omega arith;
-  }
+  elements = e ∷ s.elements;
+  rest = s.rest;
+  whole = ap (λ r. element_bytes e ++ r) s.whole ∙ sym (append_assoc (element_bytes e) (whole_text s.elements) s.rest);
+  stand = (subst (λ r. ElementStands (setting_of h) e r) s.whole stands, s.stand);
+  none = s.none;
+  no_annotation = s.no_annotation;
+  count = let c = s.count in let len = length-append (element_bytes e) (whole_text s.elements) in omega arith;
+}
 
 more_inside : (h : Bool) (e : Element) (rest : List ℕ) (n : ℕ) → ElementStands (setting_of h) e rest → StuckInside h rest n → StuckInside h (element_bytes e ++ rest) (length (element_bytes e) + n)
 more_inside h e rest n stands s =
@@ -141,11 +141,11 @@ record FaultIn (h : Bool) (file : ℕ) (before text : List ℕ) (p : Place) : Ty
 
 more_fault : (h : Bool) (file : ℕ) (before : List ℕ) (e : Element) (rest : List ℕ) (p : Place) → ElementStands (setting_of h) e rest → CleanBelow (length (element_bytes e)) (element_bytes e ++ rest) → FaultIn h file (before ++ element_bytes e) rest p → FaultIn h file before (element_bytes e ++ rest) p
 more_fault h file before e rest p stands clean f = record {
-    count = length (element_bytes e) + f.count;
-    clean = clean_append (element_bytes e) f.count rest clean f.clean;
-    place = more_place file before (element_bytes e) rest f.count p f.place;
-    faulty = more_faulty h e rest f.count stands f.faulty;
-  }
+  count = length (element_bytes e) + f.count;
+  clean = clean_append (element_bytes e) f.count rest clean f.clean;
+  place = more_place file before (element_bytes e) rest f.count p f.place;
+  faulty = more_faulty h e rest f.count stands f.faulty;
+}
 
 barred_place : (file : ℕ) (before text : List ℕ) (n : ℕ) (p : Place) → p ≡ place_after (place_after (first_place file) before) (take n text) → p ≡ place_after (first_place file) (before ++ take n text)
 barred_place file before text n p e = e ∙ place_append (first_place file) before (take n text)
@@ -154,7 +154,9 @@ fault_here : (h : Bool) (file : ℕ) (before text : List ℕ) (p : Place) → Ha
 fault_here h file before text p (no_piece some e f) =
     let none = sym (piece_outside h file before text) ∙ e in
     record {
-      count = 0; clean = tt; place = f ∙ ap (place_after (first_place file)) (sym (append-nil before));
+      count = 0;
+      clean = tt;
+      place = f ∙ ap (place_after (first_place file)) (sym (append-nil before));
       faulty = inl (record { elements = []; rest = text; whole = refl; stand = tt; none = no_lexeme (setting_of h) text some none; no_annotation = no_annotation h text none; count = refl });
     }
 fault_here h file before text p (in_piece piece b) = record { count = b.count; clean = b.clean; place = barred_place file before text b.count p b.place; faulty = inr (inr b.barred) }
@@ -225,9 +227,11 @@ real_of file before after p f = record { count = f.count; clean = f.clean; place
 body_here : (file : ℕ) (before body close after : List ℕ) (p : Place) → 0 < length body → Halts (spot_of false file before (region_of (length body) (length close)) (body ++ (close ++ after))) p → RealFault file before body close after p
 unfolding WhyReal
 body_here file before body close after p some (no_piece left e f) = record {
-    count = 0; clean = tt; place = f ∙ ap (place_after (first_place file)) (sym (append-nil before));
-    why = inl (record { lexemes = []; rest = body; whole = refl; stand = tt; none = no_lexeme Inside body (λ x. let zero = ap length x in absurd (omega arith)) (none_of (inner_piece body) (sym (piece_inside file before body (close ++ after) (length close) some) ∙ e)); count = refl });
-  }
+  count = 0;
+  clean = tt;
+  place = f ∙ ap (place_after (first_place file)) (sym (append-nil before));
+  why = inl (record { lexemes = []; rest = body; whole = refl; stand = tt; none = no_lexeme Inside body (λ x. let zero = ap length x in absurd (omega arith)) (none_of (inner_piece body) (sym (piece_inside file before body (close ++ after) (length close) some) ∙ e)); count = refl });
+}
   where
     none_of : (o : Option _) → (o >>= λ q. Some (inside_of (region_of (length body) (length close)) q)) ≡ None → o ≡ None
     none_of None g = refl
@@ -242,21 +246,21 @@ close_here file before close after p some (in_piece piece b) = record { count = 
 body_why : (l : Lexeme) (rest close after : List ℕ) (n : ℕ) → Stands Inside l rest → WhyReal rest close after n → WhyReal (bytes_of l ++ rest) close after (length (bytes_of l) + n)
 unfolding WhyReal
 body_why l rest close after n stands (inl s) = inl (record {
-    lexemes = l ∷ s.lexemes;
-    rest = s.rest;
-    whole = ap (λ r. bytes_of l ++ r) s.whole ∙ sym (append_assoc (bytes_of l) (text_of s.lexemes) s.rest);
-    stand = (subst (λ r. Stands Inside l r) s.whole stands, s.stand);
-    none = s.none;
-    count = let c = s.count in let len = length-append (bytes_of l) (text_of s.lexemes) in omega arith;
-  })
+  lexemes = l ∷ s.lexemes;
+  rest = s.rest;
+  whole = ap (λ r. bytes_of l ++ r) s.whole ∙ sym (append_assoc (bytes_of l) (text_of s.lexemes) s.rest);
+  stand = (subst (λ r. Stands Inside l r) s.whole stands, s.stand);
+  none = s.none;
+  count = let c = s.count in let len = length-append (bytes_of l) (text_of s.lexemes) in omega arith;
+})
 body_why l rest close after n stands (inr (inl s)) = inr (inl (record {
-    lexemes = l ∷ s.lexemes;
-    more = s.more;
-    whole = ap (λ r. bytes_of l ++ r) s.whole;
-    stand = (subst (λ r. Stands Inside l r) (s.whole ∙ sym (append-nil (text_of s.lexemes))) stands, s.stand);
-    faulty = s.faulty;
-    count = let c = s.count in let len = length-append (bytes_of l) rest in omega arith;
-  }))
+  lexemes = l ∷ s.lexemes;
+  more = s.more;
+  whole = ap (λ r. bytes_of l ++ r) s.whole;
+  stand = (subst (λ r. Stands Inside l r) (s.whole ∙ sym (append-nil (text_of s.lexemes))) stands, s.stand);
+  faulty = s.faulty;
+  count = let c = s.count in let len = length-append (bytes_of l) rest in omega arith;
+}))
 body_why l rest close after n stands (inr (inr b)) = inr (inr (rw (append_assoc (bytes_of l) rest (close ++ after)) (more_barred (bytes_of l) (rest ++ (close ++ after)) n b)))
 
 body_more : (file : ℕ) (before body close after : List ℕ) (p : Place) (x : Option Token) (t : Spot) (s : InsideStep file before body (close ++ after) (length close) x t) → RealFault file (before ++ bytes_of s.lexeme) s.rest close after p → RealFault file before body close after p
@@ -290,23 +294,23 @@ open_faulty : (form : Form) (body rest : List ℕ) (n : ℕ) → Opens Real form
     → IsFaulty false (opening_mark form ++ (body ++ (closing_mark form ++ rest))) (length (opening_mark form) + n)
 unfolding WhyReal
 open_faulty form body rest n opens (inl s) = inr (inl (record {
-    elements = [];
-    form = form;
-    lexemes = s.lexemes;
-    rest = s.rest;
-    after = rest;
-    whole = ap (λ b. opening_mark form ++ (b ++ (closing_mark form ++ rest))) s.whole;
-    before = tt;
-    opens = subst (λ b. Opens Real form b rest) s.whole opens;
-    stand = s.stand;
-    none = s.none;
-    count = let c = s.count in let three = three_long form in omega arith;
-  }))
+  elements = [];
+  form = form;
+  lexemes = s.lexemes;
+  rest = s.rest;
+  after = rest;
+  whole = ap (λ b. opening_mark form ++ (b ++ (closing_mark form ++ rest))) s.whole;
+  before = tt;
+  opens = subst (λ b. Opens Real form b rest) s.whole opens;
+  stand = s.stand;
+  none = s.none;
+  count = let c = s.count in let three = three_long form in omega arith;
+}))
 open_faulty form body rest n opens (inr (inl s)) =
     let e = Annotation form s.lexemes in
     let stands : ElementStands Real e rest = (subst (λ b. Opens Real form b rest) s.whole opens, s.stand) in
     let size : length (element_bytes e) + s.more ≡ length (opening_mark form) + n =
-        let a = length-append (opening_mark form) (text_of s.lexemes ++ closing_mark form) in let b = length-append (text_of s.lexemes) (closing_mark form) in let c = s.count in let d = ap length s.whole in omega arith in
+    let a = length-append (opening_mark form) (text_of s.lexemes ++ closing_mark form) in let b = length-append (text_of s.lexemes) (closing_mark form) in let c = s.count in let d = ap length s.whole in omega arith in
     let whole : element_bytes e ++ rest ≡ opening_mark form ++ (body ++ (closing_mark form ++ rest)) = sym (ap (λ b. opening_mark form ++ (b ++ (closing_mark form ++ rest))) s.whole ∙ annotation_bytes form s.lexemes rest) in
     subst (λ t. IsFaulty false t (length (opening_mark form) + n)) whole (subst (λ m. IsFaulty false (element_bytes e ++ rest) m) size (behind e stands s.faulty))
   where
@@ -370,6 +374,7 @@ one_fault h file bytes p q (m, f, e) (n, g, k) = by_order (order m n)
     order zero (suc b) = inl (omega arith)
     order (suc a) zero = inr (inl (omega arith))
     order (suc a) (suc b) = elim (order a b) [ inl l ↦ inl (omega arith) | inr r ↦ elim r [ inl l ↦ inr (inl (omega arith)) | inr l ↦ inr (inr (ap suc l)) ] ]
+
     by_order : (m < n) ⊎ (n < m) ⊎ (m ≡ n) → p ≡ q
     by_order (inl l) = absurd (g.first m l f.faulty)
     by_order (inr (inl l)) = absurd (f.first n l g.faulty)

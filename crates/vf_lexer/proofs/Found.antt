@@ -1,19 +1,18 @@
 -- Each piece that the code finds is a lexical element, or opens an annotation, that may stand there.
-use Rattle.std.proofs.Common.{◌≡◌, ◌⊎◌, inl, inr, ℕ, zero, suc, ◌+◌, ◌-◌, ◌<◌, ◌≤◌, Bool, true, false, cond, List, [], ◌∷◌, ◌++◌, length, take, drop, Option, Some, None, refl, sym, ap, subst, ◌∙◌, arith, append_assoc}
-use Rattle.std.specs.Prelude.{nat_eq, nat_le, ◌&&◌, ◌||◌, codes, if◌then◌else◌}
+use Rattle.std.proofs.Common.{◌≡◌, ◌⊎◌, inl, inr, ℕ, suc, ◌-◌, ◌≤◌, Bool, true, false, List, [], ◌∷◌, ◌++◌, length, take, drop, Option, Some, None, refl, sym, ap, subst, ◌∙◌, arith, append_assoc}
+use Rattle.std.specs.Prelude.{nat_eq, nat_le, ◌||◌, codes, if◌then◌else◌}
 use Rattle.std.specs.List.{starts_with}
 use Rattle.std.proofs.lemmas.Bool.{leb-true}
 use Rattle.std.proofs.lemmas.List.{take-append-drop, length-take-le, length-append}
 use Rattle.vf_lexer.specs.declared.class.Class.TheVariants as classes
-use Rattle.vf_lexer.specs.declared.token.Kind.{Kind}
 use Rattle.vf_lexer.specs.declared.piece.Piece.{Piece}
 use Rattle.vf_lexer.specs.Bytes.{is_blank}
 use Rattle.vf_lexer.specs.Numbers.{◌>>=◌}
 use Rattle.vf_lexer.specs.Pieces.{run_len, Front, token_front, gap, token, opening, solid_piece, ended_from, block_comment, plain_piece, closed_block, block_opening, outer_piece, inner_piece, begins_with_mark, header_piece}
-use Rattle.vf_lexer.specs.Cuts.{Setting, Real, Inside, Header, is_ghost_in, Lexeme, Blank, Line_comment, Block_comment, Mark, Token_is, bytes_of, Form, Line_form, Block_form, opening_mark, closing_mark, AtLineEnd, InLine, Unclosed, LineBody, BlockBody, IsMark, opens_comment, Stands, Opens, NoLexeme, NoAnnotation}
+use Rattle.vf_lexer.specs.Cuts.{Setting, Real, Inside, Header, is_ghost_in, Lexeme, Blank, Line_comment, Block_comment, Mark, Token_is, bytes_of, Form, Line_form, Block_form, opening_mark, closing_mark, LineBody, BlockBody, IsMark, opens_comment, Stands, Opens}
 use Rattle.vf_lexer.proofs.Sizes.{or_left_no, or_right_no, or_case, FrontFits, token_fits}
-use Rattle.vf_lexer.proofs.Bodies.{front_of, line_len, line_split, LineSplit, unclosed_front, closed_split, ClosedSplit, at_last}
-use Rattle.vf_lexer.proofs.Lexemes.{piece_in, as_piece}
+use Rattle.vf_lexer.proofs.Bodies.{front_of, line_len, line_split, unclosed_front, closed_split, ClosedSplit, at_last}
+use Rattle.vf_lexer.proofs.Lexemes.{as_piece}
 
 -- the piece is a lexical element that stands in front of a text
 pub record IsFound (w : Setting) (text : List ℕ) (piece : Piece) : Type 0 where
@@ -41,7 +40,9 @@ token_at w text (Some x) piece e fits h f =
     let whole : take x.1 text ++ drop x.1 text ≡ text = take-append-drop x.1 text in
     let size : length (take x.1 text) ≡ x.1 = length-take-le x.1 text fits.1 in
     record {
-      lexeme = Token_is x.0 (take x.1 text); rest = drop x.1 text; whole = sym whole;
+      lexeme = Token_is x.0 (take x.1 text);
+      rest = drop x.1 text;
+      whole = sym whole;
       stands = (rw (whole, size) e, rw whole h);
       same = rw size (let same : token x ≡ piece = cc in sym same);
     }
@@ -63,7 +64,10 @@ line_found w text tail piece e may f =
     let whole : text ≡ codes "//" ++ (s.body ++ s.rest) = e ∙ ap (λ t. codes "//" ++ t) s.whole in
     let size : run_len classes.Line text ≡ suc (suc (length s.body)) = ap (run_len classes.Line) whole ∙ (let len = line_len s.body s.rest s.line s.ends in omega arith) in
     record {
-      lexeme = Line_comment s.body; rest = s.rest; whole = whole; stands = (may s.body s.rest s.whole, s.line, s.ends);
+      lexeme = Line_comment s.body;
+      rest = s.rest;
+      whole = whole;
+      stands = (may s.body s.rest s.whole, s.line, s.ends);
       same = sym f ∙ ap gap size;
     }
 
@@ -74,7 +78,9 @@ block_at w text tail (Some n) piece e f may g =
     let found : gap n ≡ piece = cc in
     let size : n ≡ suc (suc (length (s.body ++ codes "*/"))) = let c = s.count in let len = length-append s.body (codes "*/") in omega arith in
     record {
-      lexeme = Block_comment s.body; rest = s.rest; whole = e ∙ ap (λ t. codes "/*" ++ t) s.whole;
+      lexeme = Block_comment s.body;
+      rest = s.rest;
+      whole = e ∙ ap (λ t. codes "/*" ++ t) s.whole;
       stands = (may s.body (codes "*/" ++ s.rest) (s.whole ∙ append_assoc s.body (codes "*/") s.rest), s.unclosed);
       same = sym found ∙ ap gap size;
     }
@@ -123,7 +129,11 @@ line_opened text tail piece e f =
     let s = line_split tail in
     let size : run_len classes.Line tail ≡ length s.body = ap (run_len classes.Line) s.whole ∙ line_len s.body s.rest s.line s.ends in
     record {
-      form = Line_form; body = s.body; rest = s.rest; whole = e ∙ ap (λ t. codes "//@" ++ t) s.whole; opens = (s.line, s.ends);
+      form = Line_form;
+      body = s.body;
+      rest = s.rest;
+      whole = e ∙ ap (λ t. codes "//@" ++ t) s.whole;
+      opens = (s.line, s.ends);
       same = sym f ∙ ap (λ n. opening n 0) size;
     }
 
@@ -135,7 +145,9 @@ closed_at text tail n piece s e l at f =
     let last = at_last (n - 3) s.body (codes "*/" ++ s.rest) one (subst (λ t. starts_with nat_eq (drop (n - 3) t) (codes "@") ≡ true) parts at) in
     let size : n - 3 ≡ length last.0 = let len = length-append last.0 (codes "@") in let same = ap length last.1 in omega arith in
     record {
-      form = Block_form; body = last.0; rest = s.rest;
+      form = Block_form;
+      body = last.0;
+      rest = s.rest;
       whole = e ∙ ap (λ t. codes "/*@" ++ t) (parts ∙ ap (λ t. t ++ (codes "*/" ++ s.rest)) last.1 ∙ append_assoc last.0 (codes "@") (codes "*/" ++ s.rest));
       opens = unclosed_front last.0 (codes "@") (rw last.1 at s.unclosed);
       same = sym f ∙ ap (λ m. opening m 3) size;
@@ -185,8 +197,8 @@ header_by text piece true h e =
     let found : gap 3 ≡ piece = cc in
     or_case (starts_with nat_eq text (codes "//@") || starts_with nat_eq text (codes "/*@")) (starts_with nat_eq text (codes "@*/")) h
     (λ f. or_case (starts_with nat_eq text (codes "//@")) (starts_with nat_eq text (codes "/*@")) f
-      (λ g. mark_found text (codes "//@") piece g (inl refl) found)
-      (λ g. mark_found text (codes "/*@") piece g (inr (inl refl)) found))
+    (λ g. mark_found text (codes "//@") piece g (inl refl) found)
+    (λ g. mark_found text (codes "/*@") piece g (inr (inl refl)) found))
     (λ g. mark_found text (codes "@*/") piece g (inr (inr refl)) found)
 header_by text piece false h e =
     let openings = or_left_no (starts_with nat_eq text (codes "//@") || starts_with nat_eq text (codes "/*@")) (starts_with nat_eq text (codes "@*/")) h in

@@ -1,9 +1,9 @@
 -- The piece that the code finds in front of a text is the lexical element, or the annotation, that may stand there.
-use Rattle.std.proofs.Common.{◌≡◌, ◌⊎◌, inl, inr, ℕ, zero, suc, ◌+◌, ◌-◌, ◌<◌, ◌≤◌, Bool, true, false, cond, List, [], ◌∷◌, ◌++◌, length, take, drop, Option, Some, None, refl, sym, ap, subst, ◌∙◌, arith, append_assoc}
-use Rattle.std.specs.Prelude.{nat_eq, nat_le, ◌&&◌, ◌||◌, ◌==◌, codes, if◌then◌else◌}
+use Rattle.std.proofs.Common.{◌≡◌, inl, inr, ℕ, ◌+◌, ◌-◌, Bool, true, false, List, [], ◌∷◌, ◌++◌, length, Option, Some, None, refl, sym, ap, subst, ◌∙◌, arith, append_assoc}
+use Rattle.std.specs.Prelude.{nat_eq, nat_le, ◌&&◌, ◌||◌, codes, if◌then◌else◌}
 use Rattle.std.specs.List.{starts_with}
-use Rattle.std.proofs.lemmas.Bool.{eqb-true, leb-true}
-use Rattle.std.proofs.lemmas.List.{take-append-drop, length-take-le, length-append}
+use Rattle.std.proofs.lemmas.Bool.{eqb-true}
+use Rattle.std.proofs.lemmas.List.{length-append}
 use Rattle.std.proofs.Math.Seq.{drop-append_seam}
 use Rattle.vf_lexer.specs.declared.class.Class.TheVariants as classes
 use Rattle.vf_lexer.specs.declared.token.Kind.{Kind}
@@ -11,10 +11,10 @@ use Rattle.vf_lexer.specs.declared.piece.Piece.{Piece}
 use Rattle.vf_lexer.specs.Bytes.{is_blank}
 use Rattle.vf_lexer.specs.Numbers.{◌>>=◌}
 use Rattle.vf_lexer.specs.Punctuators.{punctuator_of}
-use Rattle.vf_lexer.specs.Pieces.{run_len, Front, token_front, gap, token, opening, solid_piece, ended_from, block_comment, plain_piece, closed_block, block_opening, outer_piece, inner_piece, begins_with_mark, header_piece}
-use Rattle.vf_lexer.specs.Cuts.{Setting, Real, Inside, Header, is_ghost_in, Lexeme, Blank, Line_comment, Block_comment, Mark, Token_is, bytes_of, Form, Line_form, Block_form, opening_mark, closing_mark, AtLineEnd, InLine, Unclosed, LineBody, BlockBody, IsMark, opens_comment, IsToken, Stands, Opens, NoLexeme, NoAnnotation}
-use Rattle.vf_lexer.proofs.Sizes.{and_left, and_right, or_left_no, or_right_no, or_case, FrontFits, token_fits}
-use Rattle.vf_lexer.proofs.Bodies.{front_of, line_len, line_split, unclosed_front, unclosed_at, ended_is, closed_split, at_last}
+use Rattle.vf_lexer.specs.Pieces.{run_len, token_front, gap, token, opening, solid_piece, ended_from, plain_piece, block_opening, outer_piece, inner_piece, header_piece}
+use Rattle.vf_lexer.specs.Cuts.{Setting, Real, Inside, Header, is_ghost_in, Lexeme, Blank, Line_comment, Block_comment, Mark, Token_is, bytes_of, Form, Line_form, Block_form, opening_mark, closing_mark, AtLineEnd, InLine, Unclosed, LineBody, BlockBody, IsMark, opens_comment, Stands, Opens}
+use Rattle.vf_lexer.proofs.Sizes.{or_left_no, or_right_no, or_case}
+use Rattle.vf_lexer.proofs.Bodies.{line_len, unclosed_at, ended_is}
 
 -- the piece that the code finds in a setting
 abbrev pub piece_in : Setting → List ℕ → Option Piece

@@ -4,6 +4,7 @@ pub mod Sizes
 pub mod Slices
 pub mod Steps
 pub mod Walks
+pub mod Spelled
 pub mod Faults
 pub mod Cutting
 pub mod Stepping

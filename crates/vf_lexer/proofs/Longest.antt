@@ -14,7 +14,7 @@ abbrev descending : List Punctuator → Bool
 descending [] = true
 descending (p ∷ ps) = list_all (no_longer p) (p ∷ ps) && descending ps
 
-all_at : (test : Punctuator → Bool) (ps : List Punctuator) (k : ℕ) (q : Punctuator) → list_all test ps ≡ true → k < length ps → slice_index_or ps k q ≡ q → test q ≡ true
+pub all_at : (test : Punctuator → Bool) (ps : List Punctuator) (k : ℕ) (q : Punctuator) → list_all test ps ≡ true → k < length ps → slice_index_or ps k q ≡ q → test q ≡ true
 all_at test [] k q h lt e = absurd (omega arith)
 all_at test (x ∷ xs) zero q h lt e = subst (λ y. test y ≡ true) e (and_left (test x) (list_all test xs) h)
 all_at test (x ∷ xs) (suc k) q h lt e = all_at test xs k q (and_right (test x) (list_all test xs) h) (omega arith) e

@@ -1,6 +1,6 @@
 -- What the code goes over from spot to spot, and that it goes over the elements of a text.
-use Rattle.std.proofs.Common.{◌≡◌, ◌⊎◌, inl, inr, ℕ, zero, suc, ◌+◌, ◌-◌, ◌<◌, ◌≤◌, Bool, true, false, cond, List, [], ◌∷◌, ◌++◌, length, take, drop, Option, Some, None, refl, sym, ap, ap₂, subst, ◌∙◌, arith, append_assoc, append-nil}
-use Rattle.std.specs.Prelude.{Result, Ok, Err, nat_lt, if◌then◌else◌}
+use Rattle.std.proofs.Common.{◌≡◌, inl, inr, ℕ, ◌+◌, ◌-◌, ◌<◌, Bool, true, false, List, [], ◌∷◌, ◌++◌, length, take, Option, Some, None, refl, sym, ap, ap₂, subst, ◌∙◌, arith, append_assoc, append-nil}
+use Rattle.std.specs.Prelude.{Ok, nat_lt}
 use Rattle.std.proofs.lemmas.List.{length-append}
 use Rattle.std.proofs.Math.Seq.{drop-append_seam, take-append_seam}
 use Rattle.vf_base.specs.declared.place.Place.{Place}
@@ -8,11 +8,11 @@ use Rattle.vf_lexer.specs.declared.token.Token.{Token}
 use Rattle.vf_lexer.specs.declared.piece.Piece.{Piece}
 use Rattle.vf_lexer.specs.declared.piece.Region.{Region}
 use Rattle.vf_lexer.specs.Numbers.{◌>>=◌}
-use Rattle.vf_lexer.specs.Pieces.{outside, gap, opening, inner_piece, outer_piece, header_piece, token_front}
-use Rattle.vf_lexer.specs.Tokens.{Spot, Next, End, Fault, Piece_is, place_after, walk, is_ghost, token_of, spot_behind, next_walked, next_piece, next_in, next_at, piece_at, annotated_piece, inside_of}
+use Rattle.vf_lexer.specs.Pieces.{outside, gap, opening, inner_piece, token_front}
+use Rattle.vf_lexer.specs.Tokens.{Spot, End, Fault, Piece_is, place_after, walk, is_ghost, token_of, spot_behind, next_walked, next_piece, next_in, next_at, piece_at, inside_of}
 use Rattle.vf_lexer.specs.Cuts.{Setting, Real, Inside, Header, is_ghost_in, setting_of, Lexeme, Blank, Line_comment, Block_comment, Mark, Token_is, bytes_of, text_of, Form, Line_form, Block_form, opening_mark, closing_mark, Element, Plain, Annotation, element_bytes, whole_text, Stands, AllStand, Opens, ElementStands, ElementsStand, first_place, token_in, with_first, tokens_in, element_tokens, tokens_of}
 use Rattle.vf_lexer.proofs.Sizes.{FrontFits, token_fits}
-use Rattle.vf_lexer.proofs.Walks.{CleanBelow, walk_clean, clean_walked, walk_barred, FirstBarred, clean_less, clean_rest, place_append}
+use Rattle.vf_lexer.proofs.Walks.{CleanBelow, walk_clean, clean_less, clean_rest, place_append}
 use Rattle.vf_lexer.proofs.Lexemes.{piece_in, as_piece, lexeme_piece, annotation_piece}
 
 -- from a spot to the end of the text there are these tokens
@@ -152,7 +152,7 @@ step_inside file before l rest tail closing stands clean =
     let long : 0 < length (bytes_of l ++ rest) = omega arith in
     let parts : (bytes_of l ++ rest) ++ tail ≡ bytes_of l ++ (rest ++ tail) = append_assoc (bytes_of l) rest tail in
     let found : piece_at (spot_of false file before region ((bytes_of l ++ rest) ++ tail)) ≡ Some (inside_of region (as_piece l)) =
-        piece_inside file before (bytes_of l ++ rest) tail closing long ∙ ap (λ o. o >>= λ piece. Some (inside_of region piece)) (lexeme_piece Inside l rest stands) in
+    piece_inside file before (bytes_of l ++ rest) tail closing long ∙ ap (λ o. o >>= λ piece. Some (inside_of region piece)) (lexeme_piece Inside l rest stands) in
     let left : length (bytes_of l ++ rest) - (as_piece l).size ≡ length rest = let size = size_is l in omega arith in
     let found_at : piece_at (spot_of false file before region (bytes_of l ++ (rest ++ tail))) ≡ Some (inside_of region (as_piece l)) = subst (λ t. piece_at (spot_of false file before region t) ≡ Some (inside_of region (as_piece l))) parts found in
     ap (λ t. next_at (spot_of false file before region t)) parts
@@ -182,7 +182,7 @@ lexemes_reach file before (l ∷ ls) rest tail closing stand clean =
     let parts = append_assoc (bytes_of l) (text_of ls) rest in
     let first : CleanBelow (length (bytes_of l)) (bytes_of l ++ ((text_of ls ++ rest) ++ tail)) = subst (λ t. CleanBelow (length (bytes_of l)) (bytes_of l ++ t)) (sym (append_assoc (text_of ls) rest tail)) cleans.0 in
     let later : Reaches (spot_of false file (before ++ bytes_of l) (region_of (length (text_of ls ++ rest)) closing) ((text_of ls ++ rest) ++ tail)) (tokens_in file true (before ++ bytes_of l) ls) (spot_of false file ((before ++ bytes_of l) ++ text_of ls) (region_of (length rest) closing) (rest ++ tail)) =
-        lexemes_reach file (before ++ bytes_of l) ls rest tail closing stand.1 cleans.1 in
+    lexemes_reach file (before ++ bytes_of l) ls rest tail closing stand.1 cleans.1 in
     let step = step_inside file before l (text_of ls ++ rest) tail closing stand.0 first in
     let all = reach_first _ _ _ (token_in file true before l) (tokens_in file true (before ++ bytes_of l) ls) step later in
     rw (parts, sym (append_assoc before (bytes_of l) (text_of ls))) all
@@ -206,9 +206,9 @@ annotation_reach file before form ls rest opens stand clean =
     let open_step = step_open file before form body rest opens three in
     let bare : body ++ [] ≡ body = append-nil body in
     let inside : Reaches (spot_of false file (before ++ o) (region_of (length (body ++ [])) (length c)) ((body ++ []) ++ (c ++ rest))) (tokens_in file true (before ++ o) ls) (spot_of false file ((before ++ o) ++ body) (region_of 0 (length c)) (c ++ rest)) =
-        lexemes_reach file (before ++ o) ls [] (c ++ rest) (length c) stand inner.0 in
+    lexemes_reach file (before ++ o) ls [] (c ++ rest) (length c) stand inner.0 in
     let inside_bare : Reaches (spot_of false file (before ++ o) (region_of (length body) (length c)) (body ++ (c ++ rest))) (tokens_in file true (before ++ o) ls) (spot_of false file ((before ++ o) ++ body) (region_of 0 (length c)) (c ++ rest)) =
-        subst (λ t. Reaches (spot_of false file (before ++ o) (region_of (length t) (length c)) (t ++ (c ++ rest))) (tokens_in file true (before ++ o) ls) (spot_of false file ((before ++ o) ++ body) (region_of 0 (length c)) (c ++ rest))) bare inside in
+    subst (λ t. Reaches (spot_of false file (before ++ o) (region_of (length t) (length c)) (t ++ (c ++ rest))) (tokens_in file true (before ++ o) ls) (spot_of false file ((before ++ o) ++ body) (region_of 0 (length c)) (c ++ rest))) bare inside in
     let close : Reaches (spot_of false file ((before ++ o) ++ body) (region_of 0 (length c)) (c ++ rest)) [] (spot_of false file (((before ++ o) ++ body) ++ c) outside rest) = close_reach file ((before ++ o) ++ body) c rest inner.1 in
     let both = reach_both _ _ _ (tokens_in file true (before ++ o) ls) [] inside_bare close in
     let both_bare : Reaches (spot_of false file (before ++ o) (region_of (length body) (length c)) (body ++ (c ++ rest))) (tokens_in file true (before ++ o) ls) (spot_of false file (((before ++ o) ++ body) ++ c) outside rest) = rw (append-nil (tokens_in file true (before ++ o) ls)) at both in
@@ -237,6 +237,6 @@ elements_reach h file before (e ∷ es) rest stand clean =
     let cleans = clean_both (element_bytes e) (whole_text es) rest clean in
     let first = element_reach h file before e (whole_text es ++ rest) stand.0 cleans.0 in
     let later : Reaches (spot_of h file (before ++ element_bytes e) outside (whole_text es ++ rest)) (tokens_of file h (before ++ element_bytes e) es) (spot_of h file ((before ++ element_bytes e) ++ whole_text es) outside rest) =
-        elements_reach h file (before ++ element_bytes e) es rest stand.1 cleans.1 in
+    elements_reach h file (before ++ element_bytes e) es rest stand.1 cleans.1 in
     let all = reach_both _ _ _ (element_tokens file h before e) (tokens_of file h (before ++ element_bytes e) es) first later in
     rw (append_assoc (element_bytes e) (whole_text es) rest, sym (append_assoc before (element_bytes e) (whole_text es))) all

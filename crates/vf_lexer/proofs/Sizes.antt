@@ -20,11 +20,11 @@ pub either : {X : Type 0} (P : X → Type 0) (b : Bool) (x y : X) → (b ≡ tru
 either P true x y h k = h refl
 either P false x y h k = k refl
 
-or_left : (a b : Bool) → a ≡ true → (a || b) ≡ true
+pub or_left : (a b : Bool) → a ≡ true → (a || b) ≡ true
 or_left true b h = refl
 or_left false b h = absurd cc
 
-or_right : (a b : Bool) → b ≡ true → (a || b) ≡ true
+pub or_right : (a b : Bool) → b ≡ true → (a || b) ≡ true
 or_right true b h = refl
 or_right false b h = h
 

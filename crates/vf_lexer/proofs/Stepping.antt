@@ -1,19 +1,17 @@
 -- What the code goes over in one step is a lexical element, a mark of an annotation, or nothing where none may stand.
-use Rattle.std.proofs.Common.{◌≡◌, ◌⊎◌, inl, inr, ℕ, zero, suc, ◌+◌, ◌-◌, ◌<◌, ◌≤◌, Bool, true, false, List, [], ◌∷◌, ◌++◌, length, take, drop, Option, Some, None, refl, sym, ap, ap₂, subst, ◌∙◌, arith, append_assoc, append-nil}
-use Rattle.std.specs.Prelude.{Result, Ok, Err, nat_lt, if◌then◌else◌}
-use Rattle.std.proofs.lemmas.List.{length-append}
+use Rattle.std.proofs.Common.{◌≡◌, ◌⊎◌, inl, inr, ℕ, ◌<◌, Bool, true, false, List, [], ◌∷◌, ◌++◌, length, Option, Some, None, refl, sym, ap, subst, ◌∙◌, arith, append_assoc}
+use Rattle.std.specs.Prelude.{Result, Ok, Err}
 use Rattle.vf_base.specs.declared.place.Place.{Place}
 use Rattle.vf_lexer.specs.declared.token.Token.{Token}
 use Rattle.vf_lexer.specs.declared.piece.Piece.{Piece}
-use Rattle.vf_lexer.specs.declared.piece.Region.{Region}
 use Rattle.vf_lexer.specs.Numbers.{◌>>=◌}
 use Rattle.vf_lexer.specs.Pieces.{outside, gap, opening, inner_piece, outer_piece, header_piece}
-use Rattle.vf_lexer.specs.Tokens.{Spot, Next, End, Fault, Piece_is, place_after, walk, token_of, spot_behind, next_walked, next_piece, next_in, next_at, piece_at, inside_of}
-use Rattle.vf_lexer.specs.Cuts.{Setting, Real, Inside, Header, setting_of, Lexeme, bytes_of, Form, Line_form, Block_form, opening_mark, closing_mark, Stands, Opens, first_place, token_in, NoLexeme, NoAnnotation}
+use Rattle.vf_lexer.specs.Tokens.{Spot, End, Fault, Piece_is, place_after, walk, next_walked, next_piece, next_in, next_at, piece_at, inside_of}
+use Rattle.vf_lexer.specs.Cuts.{Setting, Real, Inside, Header, setting_of, Lexeme, bytes_of, Form, opening_mark, closing_mark, Stands, Opens, first_place, token_in, NoLexeme, NoAnnotation}
 use Rattle.vf_lexer.proofs.Walks.{CleanBelow, clean_walked, walk_barred, FirstBarred}
 use Rattle.vf_lexer.proofs.Lexemes.{piece_in, as_piece, lexeme_piece, annotation_piece}
 use Rattle.vf_lexer.proofs.Found.{IsFound, IsOpened, outer_found, inner_found, header_found}
-use Rattle.vf_lexer.proofs.Runs.{spot_of, region_of, next_some, size_is, lexeme_some, piece_outside, piece_inside, piece_close, step_plain, step_open, step_inside, step_close}
+use Rattle.vf_lexer.proofs.Runs.{spot_of, region_of, next_some, size_is, piece_outside, piece_inside, piece_close, step_plain, step_open, step_inside, step_close}
 
 -- ---- what one step tells
 
@@ -24,6 +22,7 @@ end_in s (b ∷ bs) e = absurd (not_end (piece_at s) e)
     walked : (piece : Piece) (r : Result Place Place) → next_walked s piece r ≡ End → ⊥
     walked piece (Ok p) f = absurd cc
     walked piece (Err p) f = absurd cc
+
     not_end : (o : Option Piece) → next_piece s o ≡ End → ⊥
     not_end None f = absurd cc
     not_end (Some piece) f = walked piece (walk s.place piece.size s.text) f
@@ -121,6 +120,7 @@ real_step file before text x t e = choose (outer_found text gone.piece (sym (pie
   where
     gone : Taken (spot_of false file before outside text)
     gone = taken (spot_of false file before outside text) x t e
+
     choose : IsFound Real text gone.piece ⊎ IsOpened text gone.piece → PlainStep false file before text x t ⊎ OpenStep file before text x t
     choose (inl f) = inl (plain_step false file before text x t gone.piece e gone.clean f)
     choose (inr f) = inr (open_step file before text x t gone.piece e gone.clean f)
@@ -152,8 +152,8 @@ inside_by file before body tail closing x t piece (Some q) e clean f g =
     let parts : body ++ tail ≡ bytes_of l ++ (found.rest ++ tail) = ap (λ b. b ++ tail) found.whole ∙ append_assoc (bytes_of l) found.rest tail in
     let clear : CleanBelow (length (bytes_of l)) (bytes_of l ++ (found.rest ++ tail)) = rw (size, parts) at clean in
     let step : next_at (spot_of false file before (region_of (length body) closing) (body ++ tail)) ≡ Piece_is (token_in file true before l) (spot_of false file (before ++ bytes_of l) (region_of (length found.rest) closing) (found.rest ++ tail)) =
-        subst (λ b. next_at (spot_of false file before (region_of (length b) closing) (b ++ tail)) ≡ Piece_is (token_in file true before l) (spot_of false file (before ++ bytes_of l) (region_of (length found.rest) closing) (found.rest ++ tail))) (sym found.whole)
-        (step_inside file before l found.rest tail closing found.stands clear) in
+    subst (λ b. next_at (spot_of false file before (region_of (length b) closing) (b ++ tail)) ≡ Piece_is (token_in file true before l) (spot_of false file (before ++ bytes_of l) (region_of (length found.rest) closing) (found.rest ++ tail))) (sym found.whole)
+    (step_inside file before l found.rest tail closing found.stands clear) in
     let same = same_step (spot_of false file before (region_of (length body) closing) (body ++ tail)) t _ x _ e step in
     record { lexeme = l; rest = found.rest; whole = found.whole; stands = found.stands; clean = clear; token = same.0; spot = same.1 }
 

@@ -3,4 +3,5 @@ pub mod Numbers
 pub mod Punctuators
 pub mod Pieces
 pub mod Tokens
+pub mod Spellings
 pub mod Cuts

@@ -9,6 +9,7 @@ use Rattle.vf_base.specs.declared.int_type.IntType.{IntType}
 use Rattle.vf_base.specs.declared.int_type.IntType.TheVariants as types
 use Rattle.vf_lexer.specs.declared.number.Suffix.{Suffix}
 
+-- what follows from a value, if there is one
 infixl 10 ◌>>=◌
 abbrev pub ◌>>=◌ : {A B : Type 0} → Option A → (A → Option B) → Option B
 None >>= f = None
@@ -32,6 +33,7 @@ most_of types.ULongLong = 18446744073709551615
 abbrev pub number_types : List IntType
 number_types = types.Int ∷ types.UInt ∷ types.Long ∷ types.ULong ∷ types.LongLong ∷ types.ULongLong ∷ []
 
+-- a type of numbers has no negative ones
 abbrev pub is_unsigned : IntType → Bool
 is_unsigned types.UInt = true
 is_unsigned types.ULong = true
@@ -58,22 +60,27 @@ is_fit suffix decimal value t = is_listed suffix decimal t && nat_le value (most
 unfoldable pub type_of : Suffix → Bool → ℕ → Option IntType
 type_of suffix decimal value = find (is_fit suffix decimal value) number_types
 
+-- a byte is `u` or `U`
 abbrev pub is_u : ℕ → Bool
 is_u b = b == 117 || b == 85
 
--- suffixes of numbers that ask for no long type, for a long and for a long long one
+-- the suffixes that ask for no long type (C11 6.4.4.1)
 abbrev pub plain_suffixes : List (List ℕ)
 plain_suffixes = codes "" ∷ codes "u" ∷ codes "U" ∷ []
 
+-- the suffixes that ask for a long type (C11 6.4.4.1)
 abbrev pub long_suffixes : List (List ℕ)
 long_suffixes = codes "l" ∷ codes "L" ∷ codes "ul" ∷ codes "uL" ∷ codes "Ul" ∷ codes "UL" ∷ codes "lu" ∷ codes "lU" ∷ codes "Lu" ∷ codes "LU" ∷ []
 
+-- the suffixes that ask for a long long type (C11 6.4.4.1)
 abbrev pub long_long_suffixes : List (List ℕ)
 long_long_suffixes = codes "ll" ∷ codes "LL" ∷ codes "ull" ∷ codes "uLL" ∷ codes "Ull" ∷ codes "ULL" ∷ codes "llu" ∷ codes "llU" ∷ codes "LLu" ∷ codes "LLU" ∷ []
 
+-- a word is one of these
 abbrev pub is_among : List (List ℕ) → List ℕ → Bool
 is_among words w = list_any (bytes_eq w) words
 
+-- how many times the type is long at least that a suffix asks for
 unfoldable pub suffix_longs : List ℕ → Option ℕ
 suffix_longs text = if is_among plain_suffixes text then Some 0 else (if is_among long_suffixes text then Some 1 else (if is_among long_long_suffixes text then Some 2 else None))
 
@@ -89,6 +96,7 @@ base_of text = if starts_with nat_eq text (codes "0x") then 16 else (if starts_w
 abbrev pub digits_of : List ℕ → List ℕ
 digits_of text = if starts_with nat_eq text (codes "0x") then drop 2 text else text
 
+-- how many digits of a base there are at the front of a text
 abbrev pub digits_len : ℕ → List ℕ → ℕ
 digits_len base text = prefix_len (λ b. is_digit b base) text
 
@@ -105,6 +113,7 @@ unfoldable pub ghost_type : List ℕ → Bool → ℕ → Option IntType
 ghost_type [] decimal value = Some (unwrap_or (type_of (record { unsigned = false; longs = 0 }) decimal value) types.ULongLong)
 ghost_type (b ∷ bs) decimal value = None
 
+-- the type of a number of one kind of text, ghost or real, by its suffix, base and value
 abbrev pub type_in : Bool → List ℕ → Bool → ℕ → Option IntType
 type_in ghost suffix decimal value = if ghost then ghost_type suffix decimal value else real_type suffix decimal value
 
@@ -113,6 +122,7 @@ unfoldable pub number_with : Bool → ℕ → List ℕ → List ℕ → Option (
 number_with ghost base [] suffix = None
 number_with ghost base (d ∷ ds) suffix = value_of base (d ∷ ds) >>= λ value. type_in ghost suffix (base == 10) value >>= λ t. Some (value, t)
 
+-- the number and type that a text writes: digits of the base as far as they go, and a suffix
 abbrev pub split_number : Bool → ℕ → List ℕ → Option (ℕ × IntType)
 split_number ghost base text = number_with ghost base (take (digits_len base text) text) (drop (digits_len base text) text)
 

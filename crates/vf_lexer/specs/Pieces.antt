@@ -14,6 +14,7 @@ use Rattle.vf_lexer.specs.Bytes.{is_blank, is_letter, is_word_byte, is_number_by
 use Rattle.vf_lexer.specs.Numbers.{◌>>=◌, number_of}
 use Rattle.vf_lexer.specs.Punctuators.{spelling, punctuator_of}
 
+-- a byte is of a class
 abbrev pub is_of : Class → ℕ → Bool
 is_of classes.Word b = is_word_byte b
 is_of classes.Number b = is_number_byte b
@@ -26,6 +27,7 @@ run_len c text = prefix_len (is_of c) text
 
 -- ---- tokens: their kind and how many bytes they take
 
+-- the kind of the token in front of a text and how many bytes it takes, if there is one
 abbrev pub Front : Type 0
 Front = Option (Kind × ℕ)
 
@@ -33,10 +35,11 @@ Front = Option (Kind × ℕ)
 abbrev pub name_kind : Bool → List ℕ → Kind
 name_kind ghost word = if ghost && bytes_eq word (codes "_") then kinds.Wild else kinds.Name
 
+-- the name in front of a text that begins with a letter: it goes on as long as letters, digits and `_` do (C11 6.4.2.1)
 abbrev pub name_front : Bool → List ℕ → Front
 name_front ghost text = Some (name_kind ghost (take (run_len classes.Word text) text), run_len classes.Word text)
 
--- a number ends where no byte follows that may not; all up to there has to be one
+-- a number ends where no byte follows that may not: as of a preprocessing number of C11 6.4.8 all bytes up to there have to be one, so `08` and `1.5` are none, though `0` and `1` are numbers
 abbrev pub number_front : Bool → List ℕ → Front
 number_front ghost text = number_of ghost (take (run_len classes.Number text) text) >>= λ x. Some (kinds.Number x.0 x.1, run_len classes.Number text)
 
@@ -60,6 +63,7 @@ character_front (a ∷ []) = None
 character_front (a ∷ b ∷ []) = plain_character a b
 character_front (a ∷ b ∷ c ∷ rest) = if a == 92 then escaped_character b c else plain_character a b
 
+-- the literal of n bytes between quotes, where the byte behind those is the closing quote (C11 6.4.5)
 abbrev pub closed_literal : ℕ → Option ℕ → Front
 closed_literal n (Some b) = if b == 34 then Some (kinds.Literal, n + 2) else None
 closed_literal n None = None
@@ -68,6 +72,7 @@ closed_literal n None = None
 abbrev pub literal_front : List ℕ → Front
 literal_front text = closed_literal (run_len classes.Quoted text) (slice_get text (run_len classes.Quoted text))
 
+-- the punctuator in front of a text, the longest one (C11 6.4.6)
 abbrev pub punctuator_front : Bool → List ℕ → Front
 punctuator_front ghost text = punctuator_of ghost text >>= λ p. Some (kinds.Punctuator p, length (spelling p))
 
@@ -79,12 +84,15 @@ token_front ghost (b ∷ bs) = if is_letter b then name_front ghost (b ∷ bs) e
 
 -- ---- pieces: a gap or a token, how many bytes it takes, and how much of an annotation follows it
 
+-- no part of an annotation is left
 abbrev pub outside : Region
 outside = record { inside = 0; closing = 0 }
 
+-- a piece of so many bytes that only parts tokens
 abbrev pub gap : ℕ → Piece
 gap size = record { shape = shapes.Gap; size = size; region = outside }
 
+-- a piece that is a token of this kind with so many bytes
 abbrev pub token : Kind × ℕ → Piece
 token x = record { shape = shapes.Token x.0; size = x.1; region = outside }
 
@@ -115,6 +123,7 @@ opening inside closing = record { shape = shapes.Gap; size = 3; region = record 
 abbrev pub closed_block : List ℕ → ℕ → Option Piece
 closed_block text n = if nat_le 3 n then (if starts_with nat_eq (drop (n - 3) text) (codes "@") then Some (opening (n - 3) 3) else None) else None
 
+-- the annotation whose opening `/*@` stands before this text, up to the first `*/`
 abbrev pub block_opening : List ℕ → Option Piece
 block_opening text = ended_from 0 text >>= λ n. closed_block text n
 
@@ -128,6 +137,7 @@ unfoldable pub inner_piece : List ℕ → Option Piece
 inner_piece text = if starts_with nat_eq text (codes "//") then Some (gap (run_len classes.Line text))
     else (if starts_with nat_eq text (codes "/*") then None else solid_piece true text)
 
+-- a text begins with one of the three marks of annotations
 abbrev pub begins_with_mark : List ℕ → Bool
 begins_with_mark text = starts_with nat_eq text (codes "//@") || starts_with nat_eq text (codes "/*@") || starts_with nat_eq text (codes "@*/")
 

@@ -1,4 +1,4 @@
--- The tokens of a text, with their bytes, places and ghost marks, and the place where a text has none.
+-- How the code reads a text, spot by spot: the words that the contracts of its steps cite. What the tokens of a whole text are stands in Cuts.
 use Rattle.std.specs.Prelude.{◌≡◌, ℕ, zero, suc, ◌+◌, ◌-◌, ◌≤◌, ◌==◌, Bool, ◌||◌, if◌then◌else◌, nat_lt, List, [], ◌∷◌, take, drop, Option, Some, None, Result, Ok, Err}
 use Rattle.vf_base.specs.declared.place.Place.{Place}
 use Rattle.vf_lexer.specs.declared.fault.LexFault.{LexFault}
@@ -47,6 +47,7 @@ annotated_piece region text = if nat_lt 0 region.inside then (inner_piece (take 
 unfoldable pub piece_at : Spot → Option Piece
 piece_at s = if s.header then header_piece s.text else annotated_piece s.region s.text
 
+-- what stands at a spot is ghost in a ghost header and inside of an annotation
 abbrev pub is_ghost : Spot → Bool
 is_ghost s = s.header || nat_lt 0 s.region.inside
 
@@ -72,18 +73,22 @@ pub data Next : Type 0 where
   Fault : Place → Next
   Piece_is : Option Token → Spot → Next
 
+-- what stands at a spot with a piece: the token that it is, or a fault where in it begins what may stand nowhere
 abbrev pub next_walked : Spot → Piece → Result Place Place → Next
 next_walked s piece (Ok place) = Piece_is (token_of s piece.shape piece.size) (spot_behind s piece place)
 next_walked s piece (Err place) = Fault place
 
+-- what stands at a spot where this piece, or none, was found: with none the spot itself is the fault
 abbrev pub next_piece : Spot → Option Piece → Next
 next_piece s None = Fault s.place
 next_piece s (Some piece) = next_walked s piece (walk s.place piece.size s.text)
 
+-- what stands at a spot with this text left: the end where nothing is left
 abbrev pub next_in : Spot → List ℕ → Next
 next_in s [] = End
 next_in s (b ∷ bs) = next_piece s (piece_at s)
 
+-- what stands at a spot
 unfoldable pub next_at : Spot → Next
 next_at s = next_in s s.text
 

@@ -18,12 +18,14 @@ pub enum Class {
     Quoted,
 }
 
+/// Whether a byte is tab, line feed, form feed, carriage return or space.
 pub fn is_blank(byte: u8) -> bool
     ensures { result ≡ is_blank byte }
 {
     byte == b'\t' || byte == b'\n' || byte == 12 || byte == b'\r' || byte == b' '
 }
 
+/// Whether a byte is a letter or `_`.
 pub fn is_letter(byte: u8) -> bool
     ensures { result ≡ is_letter byte }
 {

@@ -7,6 +7,7 @@ use vf_base::{Memory, Place};
 pub enum LexFault {
     /// The first byte at which no token can start or continue.
     Lex(Place),
+    /// There was not enough memory.
     Memory,
 }
 

@@ -4,7 +4,9 @@ ghost use Rattle.std.specs.Prelude.{◌≡◌, ◌≤◌, List, ℕ, length, IfO
 ghost use Rattle.vf_base.specs.declared.place.Place.{Place};
 ghost use Rattle.vf_lexer.specs.declared.token.Token.{Token};
 ghost use Rattle.vf_lexer.specs.Tokens.{IfLex, IsSlice, IsPlaced};
-ghost use Rattle.vf_lexer.specs.Cuts.{HasTokens, HasFault};
+ghost use Rattle.vf_lexer.specs.declared.token.Kind.{Kind};
+ghost use Rattle.vf_lexer.specs.Spellings.{IsLongest};
+ghost use Rattle.vf_lexer.specs.Cuts.{IsToken, HasTokens, HasFault};
 ghost use Rattle.std.specs.List.{AllByRecursion};
 
 use crate::cursor::Cursor;
@@ -13,7 +15,9 @@ use crate::token::TokenList;
 use std::alloc::Global;
 use vf_base::Sequence;
 
-/// The tokens of a text of a file with this number. All are ghost where it is a ghost header.
+/// The tokens of a text of a file with this number (C11 6.4). All are ghost where it is a ghost header.
+///
+/// `Lex` has the place of the first byte at which nothing can start or go on, and then the text has no tokens.
 pub fn lex(
     alloc: Global,
     bytes: &[u8],
@@ -57,4 +61,10 @@ pub fn tokens_are_slices()
 pub fn tokens_have_their_places()
     ensures { (header : Bool) (file : ℕ) (bytes : List ℕ) (tokens : List Token)
         → HasTokens header file bytes tokens → AllByRecursion (IsPlaced file bytes) tokens }
+{}
+
+/// Each token is the longest: none of any kind is written by its bytes and more of what follows (C11 6.4, paragraph 4).
+pub fn longest_token()
+    ensures { (ghost_text : Bool) (kind : Kind) (token rest : List ℕ)
+        → IsToken ghost_text kind token rest → IsLongest ghost_text token rest }
 {}

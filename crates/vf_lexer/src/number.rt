@@ -11,7 +11,9 @@ use vf_base::IntType;
 /// What the suffix of a number asks for.
 #[derive(Clone, Copy, Debug)]
 pub struct Suffix {
+    /// Whether the type has to be unsigned.
     pub unsigned: bool,
+    /// How many times the type has to be long at least, two at most.
     pub longs: u8,
 }
 

@@ -10,25 +10,33 @@ use crate::token::Kind;
 /// What a piece is: a token, or what parts tokens.
 #[derive(Clone, Copy, Debug)]
 pub enum Shape {
+    /// Blank space, a comment, or a mark of an annotation.
     Gap,
+    /// A token of this kind.
     Token(Kind),
 }
 
 /// How much of an annotation follows: the bytes inside, and those of the mark that closes it.
 #[derive(Clone, Copy, Debug)]
 pub struct Region {
+    /// How many bytes are left inside.
     pub inside: usize,
+    /// How many bytes the mark behind those has.
     pub closing: usize,
 }
 
 /// A piece in front of a text, and what of an annotation that it opens follows it.
 #[derive(Clone, Copy, Debug)]
 pub struct Piece {
+    /// What it is.
     pub shape: Shape,
+    /// How many bytes it has, one at least.
     pub size: usize,
+    /// What of an annotation follows it.
     pub region: Region,
 }
 
+/// A piece of so many bytes that only parts tokens.
 pub fn gap(size: usize) -> Piece
     ensures { result ≡ gap size }
 {

@@ -16,16 +16,22 @@ pub enum Kind {
     Character { value: u8 },
     /// A text between double quotes.
     Literal,
+    /// An operator, a bracket or another mark (C11 6.4.6, and those of ghost text).
     Punctuator(Punctuator),
 }
 
 /// A token, which is the bytes of a file from `start` to `end`.
 #[derive(Debug, Drop)]
 pub struct Token {
+    /// What the token is.
     pub kind: Kind,
+    /// Its bytes.
     pub text: Text,
+    /// How many bytes of the file stand before it.
     pub start: u32,
+    /// How many bytes of the file stand before the first behind it.
     pub end: u32,
+    /// The line and the column, in bytes and from 1, of its first byte.
     pub place: Place,
     /// Whether it stands in an annotation or in a ghost header.
     pub is_ghost: bool,

@@ -1,5 +1,5 @@
 use Rattle.vf_lexer.proofs.Laws.{same_tokens}
-use Rattle.vf_lexer.proofs.Cutting.{cut_gives, gives_cut}
+use Rattle.vf_lexer.proofs.Cutting.{cut_gives}
 use Rattle.vf_lexer.proofs.Faults.{one_fault, never_cut}
 use Rattle.vf_lexer.proofs.lexer.one_reading.Goals as goal
 
