@@ -1,6 +1,8 @@
 -- The token in front of a text is written as its kind is, and no longer front of the text is written as a token is.
-use Rattle.std.proofs.Common.{◌≡◌, inl, inr, ℕ, suc, ◌+◌, ◌<◌, ◌≤◌, Bool, true, false, List, [], ◌∷◌, ◌++◌, length, take, drop, Option, Some, None, refl, sym, ap, subst, ◌∙◌, arith, append_assoc}
+use Rattle.std.proofs.Common.{◌≡◌, inl, inr, ℕ, zero, suc, cond, ◌+◌, ◌<◌, ◌≤◌, Bool, true, false, List, [], ◌∷◌, ◌++◌, length, take, drop, Option, Some, None, refl, sym, ap, subst, ◌∙◌, arith, append_assoc}
 use Rattle.std.specs.Prelude.{nat_eq, not, ◌&&◌, ◌==◌, codes, if◌then◌else◌, slice_get, Contains}
+use Rattle.std.specs.Option.{unwrap_or}
+use Rattle.std.proofs.Math.Seq.{take-append_seam}
 use Rattle.std.specs.Char.{is_ascii_digit, is_digit, digit_value}
 use Rattle.std.specs.Cmp.Lexicographic.{pointwise}
 use Rattle.std.specs.List.{starts_with, list_all, list_any}
@@ -17,10 +19,10 @@ use Rattle.vf_lexer.specs.declared.token.Kind.TheVariants as kinds
 use Rattle.vf_lexer.specs.declared.punctuator.Punctuator.{Punctuator}
 use Rattle.vf_lexer.specs.Bytes.{is_letter, is_word_byte, is_number_byte, is_plain, is_quoted}
 use Rattle.vf_lexer.specs.Numbers.{◌>>=◌, number_of, digits_len, is_among, plain_suffixes, long_suffixes, long_long_suffixes, suffix_longs, suffix_of, is_u, type_of, real_type, ghost_type, type_in, value_of, number_with, split_number}
-use Rattle.vf_lexer.specs.Punctuators.{spelling, punctuator_of, punctuators_in, real_punctuators, ghost_punctuators}
-use Rattle.vf_lexer.specs.Pieces.{is_of, run_len, Front, name_front, number_front, escaped, plain_character, escaped_character, character_front, closed_literal, literal_front, punctuator_front, token_front}
+use Rattle.vf_lexer.specs.Punctuators.{spelling, longest_of, punctuator_of, punctuators_in, real_punctuators, ghost_punctuators}
+use Rattle.vf_lexer.specs.Pieces.{is_of, run_len, Front, name_kind, name_front, number_front, escaped, plain_character, escaped_character, character_front, closed_literal, literal_front, punctuator_front, token_front}
 use Rattle.vf_lexer.specs.Spellings.{IsWord, Spells, IsLongest}
-use Rattle.vf_lexer.proofs.Sizes.{and_left, and_right, or_left, or_case}
+use Rattle.vf_lexer.proofs.Sizes.{either, and_left, and_right, or_left, or_case}
 use Rattle.vf_lexer.proofs.Bodies.{front_of}
 use Rattle.vf_lexer.specs.Cuts.{IsToken}
 use Rattle.vf_lexer.proofs.Longest.{longest, all_at}
@@ -305,3 +307,135 @@ token_longest ghost kind bytes rest e = λ k more after whole some spells.
     empty : (more : List ℕ) → length more ≤ 0 → more ≡ []
     empty [] h = refl
     empty (x ∷ xs) h = absurd (omega arith)
+
+-- ---- the token in front of a text is written as its kind is
+
+run_all : (c : Class) (text : List ℕ) → list_all (is_of c) (take (run_len c text) text) ≡ true
+run_all c [] = refl
+run_all c (b ∷ bs) = by_byte (is_of c b) refl (run_all c bs)
+  where
+    by_byte : (t : Bool) → is_of c b ≡ t → list_all (is_of c) (take (run_len c bs) bs) ≡ true → list_all (is_of c) (take (run_len c (b ∷ bs)) (b ∷ bs)) ≡ true
+    by_byte true e more = let one : 1 + run_len c bs ≡ suc (run_len c bs) = omega arith in rw (e, one) (both_true (is_of c b) _ e more)
+    by_byte false e more = rw e refl
+
+spells_by : (ghost : Bool) (word : List ℕ) (t : Bool) → (ghost && bytes_eq word (codes "_")) ≡ t → IsWord word → Spells ghost (if t then kinds.Wild else kinds.Name) word
+spells_by ghost word true e h = (h, rw e refl)
+spells_by ghost word false e h = (h, rw e refl)
+
+spells_word : (ghost : Bool) (word : List ℕ) → IsWord word → Spells ghost (name_kind ghost word) word
+spells_word ghost word h = spells_by ghost word (ghost && bytes_eq word (codes "_")) refl h
+
+-- the bytes of a kind in front of a text are so written
+Written : Bool → List ℕ → Front → Type 0
+Written ghost text None = Unit {0}
+Written ghost text (Some x) = Spells ghost x.0 (take x.1 text)
+
+first_word : (b : ℕ) (bs : List ℕ) → is_letter b ≡ true → IsWord (take (run_len classes.Word (b ∷ bs)) (b ∷ bs))
+first_word b bs h =
+    let word : is_word_byte b ≡ true = or_left (is_letter b) (is_ascii_digit b) h in
+    let run : run_len classes.Word (b ∷ bs) ≡ suc (run_len classes.Word bs) = one_more b bs word in
+    rw run (h, run_all classes.Word bs)
+  where
+    one_more : (b : ℕ) (bs : List ℕ) → is_word_byte b ≡ true → run_len classes.Word (b ∷ bs) ≡ suc (run_len classes.Word bs)
+    one_more b bs e = rw e (omega arith)
+
+written_name : (ghost : Bool) (b : ℕ) (bs : List ℕ) → is_letter b ≡ true → Written ghost (b ∷ bs) (name_front ghost (b ∷ bs))
+unfolding Written
+written_name ghost b bs h = spells_word ghost (take (run_len classes.Word (b ∷ bs)) (b ∷ bs)) (first_word b bs h)
+
+written_number_by : (ghost : Bool) (text : List ℕ) (n : ℕ) (o : Option (ℕ × IntType)) → number_of ghost (take n text) ≡ o → Written ghost text (o >>= λ x. front (kinds.Number x.0 x.1) n)
+unfolding Written
+written_number_by ghost text n None e = tt
+written_number_by ghost text n (Some x) e = e
+
+written_plain : (ghost : Bool) (a b : ℕ) (rest : List ℕ) → Written ghost (39 ∷ a ∷ b ∷ rest) (plain_character a b)
+unfolding Written
+written_plain ghost a b rest = by_test (is_plain a && nat_eq b 39) refl
+  where
+    by_test : (t : Bool) → (is_plain a && nat_eq b 39) ≡ t → Written ghost (39 ∷ a ∷ b ∷ rest) (if t then front (kinds.Character a) 3 else None)
+    by_test true e = inl (and_left (is_plain a) (nat_eq b 39) e, ap (λ x. 39 ∷ a ∷ x ∷ []) (eqb-true b 39 (and_right (is_plain a) (nat_eq b 39) e)))
+    by_test false e = tt
+
+written_escape : (ghost : Bool) (b c : ℕ) (rest : List ℕ) → Written ghost (39 ∷ 92 ∷ b ∷ c ∷ rest) (escaped_character b c)
+unfolding Written
+written_escape ghost b c rest = by_test (nat_eq c 39) refl
+  where
+    by_value : (o : Option ℕ) → escaped b ≡ o → c ≡ 39 → Written ghost (39 ∷ 92 ∷ b ∷ c ∷ rest) (o >>= λ value. front (kinds.Character value) 4)
+    by_value None e f = tt
+    by_value (Some v) e f = inr (b, e, ap (λ x. 39 ∷ 92 ∷ b ∷ x ∷ []) f)
+
+    by_test : (t : Bool) → nat_eq c 39 ≡ t → Written ghost (39 ∷ 92 ∷ b ∷ c ∷ rest) (if t then (escaped b >>= λ value. front (kinds.Character value) 4) else None)
+    by_test true e = by_value (escaped b) refl (eqb-true c 39 e)
+    by_test false e = tt
+
+written_character : (ghost : Bool) (text : List ℕ) → Written ghost (39 ∷ text) (character_front text)
+unfolding Written
+written_character ghost [] = tt
+written_character ghost (a ∷ []) = tt
+written_character ghost (a ∷ b ∷ []) = written_plain ghost a b []
+written_character ghost (a ∷ b ∷ c ∷ rest) = by_test (nat_eq a 92) refl
+  where
+    by_test : (t : Bool) → nat_eq a 92 ≡ t → Written ghost (39 ∷ a ∷ b ∷ c ∷ rest) (if t then escaped_character b c else plain_character a b)
+    by_test true e = let same : a ≡ 92 = eqb-true a 92 e in subst (λ x. Written ghost (39 ∷ x ∷ b ∷ c ∷ rest) (escaped_character b c)) (sym same) (written_escape ghost b c rest)
+    by_test false e = written_plain ghost a b (c ∷ rest)
+
+take_to : (text : List ℕ) (n b : ℕ) → slice_get text n ≡ Some b → take (suc n) text ≡ take n text ++ (b ∷ [])
+take_to [] n b e = absurd cc
+take_to (x ∷ xs) zero b e = let same : x ≡ b = ap (λ o. unwrap_or o x) e in ap (λ y. y ∷ []) same
+take_to (x ∷ xs) (suc n) b e = ap (λ t. x ∷ t) (take_to xs n b e)
+
+written_literal : (ghost : Bool) (text : List ℕ) → Written ghost (34 ∷ text) (literal_front text)
+unfolding Written
+written_literal ghost text = by_end (slice_get text (run_len classes.Quoted text)) refl
+  where
+    by_quote : (b : ℕ) (t : Bool) → nat_eq b 34 ≡ t → slice_get text (run_len classes.Quoted text) ≡ Some b → Written ghost (34 ∷ text) (if t then front kinds.Literal (run_len classes.Quoted text + 2) else None)
+    by_quote b true e f =
+        let n = run_len classes.Quoted text in
+        let two : n + 2 ≡ suc (suc n) = omega arith in
+        rw two (take n text, run_all classes.Quoted text, ap (λ t. 34 ∷ t) (take_to text n b f ∙ ap (λ x. take n text ++ (x ∷ [])) (eqb-true b 34 e)))
+    by_quote b false e f = tt
+
+    by_end : (o : Option ℕ) → slice_get text (run_len classes.Quoted text) ≡ o → Written ghost (34 ∷ text) (closed_literal (run_len classes.Quoted text) o)
+    by_end None e = tt
+    by_end (Some b) e = by_quote b (nat_eq b 34) refl e
+
+-- the punctuator that is found is one of the list, with which the text begins
+found_in : (ps : List Punctuator) (text : List ℕ) (p : Punctuator) → longest_of ps text ≡ Some p → Contains ps p × (starts_with nat_eq text (spelling p) ≡ true)
+found_in [] text p e = absurd cc
+found_in (x ∷ xs) text p e = by_test (starts_with nat_eq text (spelling x)) refl e (λ f. found_in xs text p f)
+  where
+    by_test : (t : Bool) → starts_with nat_eq text (spelling x) ≡ t → cond t (Some x) (longest_of xs text) ≡ Some p → (longest_of xs text ≡ Some p → Contains xs p × (starts_with nat_eq text (spelling p) ≡ true)) → Contains (x ∷ xs) p × (starts_with nat_eq text (spelling p) ≡ true)
+    by_test true h f more = let same : x ≡ p = ap (λ o. unwrap_or o x) f in ((0, omega arith, same), subst (λ y. starts_with nat_eq text (spelling y) ≡ true) same h)
+    by_test false h f more = let r = more f in ((suc r.0.0, let less = r.0.1 in omega arith, r.0.2), r.1)
+
+found_of : (ghost : Bool) (text : List ℕ) (p : Punctuator) → punctuator_of ghost text ≡ Some p → Contains (punctuators_in ghost) p × (starts_with nat_eq text (spelling p) ≡ true)
+unfolding punctuator_of
+found_of true text p e = found_in ghost_punctuators text p e
+found_of false text p e = found_in real_punctuators text p e
+
+written_punctuator : (ghost : Bool) (text : List ℕ) (o : Option Punctuator) → punctuator_of ghost text ≡ o → Written ghost text (o >>= λ p. front (kinds.Punctuator p) (length (spelling p)))
+unfolding Written
+written_punctuator ghost text None e = tt
+written_punctuator ghost text (Some p) e =
+    let f = found_of ghost text p e in
+    let whole = front_of text (spelling p) f.1 in
+    (f.0, ap (take (length (spelling p))) whole ∙ take-append_seam (spelling p) (drop (length (spelling p)) text))
+
+written : (ghost : Bool) (text : List ℕ) → Written ghost text (token_front ghost text)
+unfolding token_front Written
+written ghost [] = tt
+written ghost (b ∷ bs) = let P = Written ghost (b ∷ bs) in
+    either P (is_letter b) _ _ (λ e. written_name ghost b bs e)
+    (λ e. either P (is_ascii_digit b) _ _ (λ f. written_number_by ghost (b ∷ bs) (run_len classes.Number (b ∷ bs)) (number_of ghost (take (run_len classes.Number (b ∷ bs)) (b ∷ bs))) refl)
+    (λ f. either P (nat_eq b 39) _ _ (λ g. let same : b ≡ 39 = eqb-true b 39 g in subst (λ x. Written ghost (x ∷ bs) (character_front bs)) (sym same) (written_character ghost bs))
+    (λ g. either P (nat_eq b 34) _ _ (λ h. let same : b ≡ 34 = eqb-true b 34 h in subst (λ x. Written ghost (x ∷ bs) (literal_front bs)) (sym same) (written_literal ghost bs))
+    (λ h. written_punctuator ghost (b ∷ bs) (punctuator_of ghost (b ∷ bs)) refl))))
+
+written_at : (ghost : Bool) (text : List ℕ) (k : Kind) (n : ℕ) → token_front ghost text ≡ front k n → Written ghost text (front k n)
+written_at ghost text k n e = subst (λ o. Written ghost text o) e (written ghost text)
+
+pub token_spelled : (ghost : Bool) (kind : Kind) (bytes rest : List ℕ) → IsToken ghost kind bytes rest → Spells ghost kind bytes
+unfolding Written
+token_spelled ghost kind bytes rest e =
+    let at : Spells ghost kind (take (length bytes) (bytes ++ rest)) = written_at ghost (bytes ++ rest) kind (length bytes) e in
+    subst (λ t. Spells ghost kind t) (take-append_seam bytes rest) at

@@ -5,7 +5,7 @@ ghost use Rattle.vf_base.specs.declared.place.Place.{Place};
 ghost use Rattle.vf_lexer.specs.declared.token.Token.{Token};
 ghost use Rattle.vf_lexer.specs.Tokens.{IfLex, IsSlice, IsPlaced};
 ghost use Rattle.vf_lexer.specs.declared.token.Kind.{Kind};
-ghost use Rattle.vf_lexer.specs.Spellings.{IsLongest};
+ghost use Rattle.vf_lexer.specs.Spellings.{Spells, IsLongest};
 ghost use Rattle.vf_lexer.specs.Cuts.{IsToken, HasTokens, HasFault};
 ghost use Rattle.std.specs.List.{AllByRecursion};
 
@@ -63,8 +63,11 @@ pub fn tokens_have_their_places()
         → HasTokens header file bytes tokens → AllByRecursion (IsPlaced file bytes) tokens }
 {}
 
-/// Each token is the longest: none of any kind is written by its bytes and more of what follows (C11 6.4, paragraph 4).
+/// Each token is written as its kind is, and none is written by its bytes and more of what follows (C11 6.4,
+/// paragraph 4).
 pub fn longest_token()
-    ensures { (ghost_text : Bool) (kind : Kind) (token rest : List ℕ)
+    ensures spelled { (ghost_text : Bool) (kind : Kind) (token rest : List ℕ)
+        → IsToken ghost_text kind token rest → Spells ghost_text kind token }
+    ensures longest { (ghost_text : Bool) (kind : Kind) (token rest : List ℕ)
         → IsToken ghost_text kind token rest → IsLongest ghost_text token rest }
 {}
