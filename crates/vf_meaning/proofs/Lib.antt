@@ -5,6 +5,7 @@ pub mod Parts
 pub mod Satisfaction
 pub mod Growth
 pub mod Joins
+pub mod ShareOuts
 mod Examples
 mod KeptExample
 mod MemoryExample

@@ -9,6 +9,7 @@ mod fixpoint_laws;
 mod fraction_laws;
 mod part_laws;
 mod satisfaction_laws;
+mod share_out_laws;
 mod value_laws;
 
 pub use fixpoint_laws::fixpoints_meet_equations;
@@ -26,5 +27,8 @@ pub use part_laws::{
 pub use satisfaction_laws::{
     cells_join, declarations_grow, depth_falls, depth_grows, halves_split, names_agree,
     satisfying_is_consistent, scales_split,
+};
+pub use share_out_laws::{
+    members_are_apart, share_outs_exclude_races, sums_close, sums_open,
 };
 pub use value_laws::{divides_by_nought, tells_claims, tells_names, tells_values, values_agree};
