@@ -1,6 +1,7 @@
 pub mod Fractions
 pub mod Values
 pub mod Structural
+pub mod Ordered
 pub mod Parts
 pub mod Satisfaction
 pub mod Growth

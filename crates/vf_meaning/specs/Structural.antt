@@ -99,3 +99,9 @@ AreOrdered (f ∷ fs) =
     × ((g : Identity) → BodyApplies f.body g → (g ≡ f.identity) ⊎ ((h : FixpointTree) × Contains fs h × (h.identity ≡ g)))
     × ((h : FixpointTree) → Contains fs h → h.identity ≢ f.identity)
     × AreOrdered fs
+
+-- the value of every fixpoint of a list in order is given by its equation, in which all fixpoints of the list have their values
+abbrev pub ListedFixpointsMeetEquations : Type 0
+ListedFixpointsMeetEquations =
+    (claims : Identity → Identity → Bool) (fs : List FixpointTree) (f : FixpointTree) (vs : Values) → AreOrdered fs → Contains fs f
+    → (interpreted claims fs).fixpoint f.identity vs ≡ by_body (interpreted claims fs) f.body vs

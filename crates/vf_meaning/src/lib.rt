@@ -12,7 +12,7 @@ mod satisfaction_laws;
 mod share_out_laws;
 mod value_laws;
 
-pub use fixpoint_laws::fixpoints_meet_equations;
+pub use fixpoint_laws::{fixpoints_meet_equations, listed_fixpoints_meet_equations};
 pub use fraction_laws::{
     counts_in_units, form_is_one, halves_make_the_whole, nought_adds_nothing, order_is_by_sums,
     order_is_total, order_is_transitive, product_associates, product_commutes, product_distributes,
