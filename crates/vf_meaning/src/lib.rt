@@ -25,8 +25,8 @@ pub use part_laws::{
     tells_contents, tells_locations, whole_is_alone,
 };
 pub use satisfaction_laws::{
-    cells_join, declarations_grow, depth_falls, depth_grows, halves_split, names_agree,
-    satisfying_is_consistent, scales_split,
+    cells_join, chunks_join, declarations_grow, depth_falls, depth_grows, halves_split,
+    names_agree, rows_join, satisfying_is_consistent, scales_split,
 };
 pub use share_out_laws::{
     members_are_apart, share_outs_exclude_races, sums_close, sums_open,
