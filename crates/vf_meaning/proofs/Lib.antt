@@ -9,4 +9,4 @@ pub mod Joins
 pub mod ShareOuts
 mod Examples
 mod KeptExample
-mod MemoryExample
+pub mod MemoryInstances

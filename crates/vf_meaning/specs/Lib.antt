@@ -18,3 +18,4 @@ pub mod SatisfactionLaws
 pub mod ShareOuts
 pub mod ShareOutLaws
 pub mod Kept
+pub mod MemoryInstances
