@@ -8,5 +8,5 @@ pub mod Growth
 pub mod Joins
 pub mod ShareOuts
 mod Examples
-mod KeptExample
+pub mod KeptInstances
 pub mod MemoryInstances

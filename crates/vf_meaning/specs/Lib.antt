@@ -19,3 +19,4 @@ pub mod ShareOuts
 pub mod ShareOutLaws
 pub mod Kept
 pub mod MemoryInstances
+pub mod KeptInstances

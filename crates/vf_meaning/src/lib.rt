@@ -21,7 +21,8 @@ pub use fraction_laws::{
     whole_scales_nothing,
 };
 pub use instances::{
-    free_mutex_is_meant, handle_is_meant, held_mutex_is_meant, ints_are_meant, struct_is_meant,
+    calls_are_kept, endless_means_nothing, free_mutex_is_meant, handle_is_meant,
+    held_mutex_is_meant, ints_are_meant, struct_is_meant,
 };
 pub use part_laws::{
     fitting_is_at_most_whole, fitting_is_consistent, nothing_fits_empty, nothing_is_neutral,
