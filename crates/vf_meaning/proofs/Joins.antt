@@ -1,5 +1,5 @@
 -- Two shares of one cell, of another location, or of one row of cells are one share of it.
-use Rattle.std.proofs.Common.{◌≡◌, ℕ, zero, suc, List, [], ◌∷◌, map, length, Option, Some, pos, refl, sym, ap, ap₂, subst, ◌∙◌, arith}
+use Rattle.std.proofs.Common.{◌≡◌, ℕ, suc, List, [], ◌∷◌, map, length, Option, Some, pos, refl, sym, ap, ap₂, subst, ◌∙◌, arith}
 use Rattle.vf_tree.specs.Core.{Identity, Field}
 use Rattle.vf_model.specs.Values.{Dyadic, Value}
 use Rattle.vf_model.specs.Values as values
@@ -218,7 +218,7 @@ rows_join e n s t share ints x many w v p q r known a b h k sums =
     let of_kind : (z : Dyadic) (u : Part) → SatisfiesPrimitive (MeansAt e n) (primitive ints) z ints asked u → IsInts z asked u = λ z u m. subst (λ c. SatisfiesPrimitive (MeansAt e n) c z ints asked u) known m in
     let second = subst (λ z. IsInts (product t z) asked q) share_is (of_kind (product t k.0) q k.2) in
     let both = subst (λ z. IsInts z asked r) (sym (product_distributes s t h.0))
-        (ints_joined (product s h.0) (product t h.0) (value_of i v x) (value_of i v many) (wanted i v w) p q r (stays_positive.1 s h.0 a (h.1).positive) (stays_positive.1 t h.0 b (h.1).positive) (of_kind (product s h.0) p h.2) second sums) in (
+    (ints_joined (product s h.0) (product t h.0) (value_of i v x) (value_of i v many) (wanted i v w) p q r (stays_positive.1 s h.0 a (h.1).positive) (stays_positive.1 t h.0 b (h.1).positive) (of_kind (product s h.0) p h.2) second sums) in (
       h.0,
       h.1,
       subst (λ c. SatisfiesPrimitive (MeansAt e n) c (product (sum s t) h.0) ints asked r) (sym known) both,

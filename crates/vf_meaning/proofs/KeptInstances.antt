@@ -1,5 +1,5 @@
 -- The small program keeps what it owes.
-use Rattle.std.proofs.Common.{◌≡◌, ℕ, zero, suc, ◌<◌, ◌≤◌, true, false, List, [], ◌∷◌, ◌++◌, length, map, Option, Some, None, slice_get, pos, ◌⊎◌, inl, refl, sym, ap, subst, ◌∙◌, arith}
+use Rattle.std.proofs.Common.{◌≡◌, ℕ, zero, suc, ◌<◌, ◌≤◌, true, false, List, [], ◌∷◌, ◌++◌, length, map, Option, Some, None, slice_get, pos, inl, refl, sym, ap, subst, ◌∙◌, arith}
 use Rattle.std.specs.Prelude.{codes, IsTrue}
 use Rattle.std.specs.List.{range_with_len}
 use Rattle.std.specs.Ordering.{nat_cmp}
@@ -7,7 +7,6 @@ use Rattle.std.specs.FinMap as finite
 use Rattle.std.specs.Cmp.Lexicographic.{bytes_decides}
 use Rattle.vf_base.specs.declared.place.Place.{Place}
 use Rattle.vf_tree.specs.Core.{Identity, Signature, ExpressionTree, StepTree, Call, CallPointer, Return, FunctionTree, ProgramTree}
-use Rattle.vf_tree.specs.Core as core
 use Rattle.vf_model.specs.declared.words.Event.{Event}
 use Rattle.vf_model.specs.Values.{Value, Values}
 use Rattle.vf_model.specs.Values as values
@@ -19,14 +18,14 @@ use Rattle.vf_meaning.specs.Fractions.{whole}
 use Rattle.vf_meaning.specs.Ghost.{Name, Numbered, Result, This, CurrentThread, Sort}
 use Rattle.vf_meaning.specs.Ghost as ghost
 use Rattle.vf_meaning.specs.Valuations.{Valuation, no_value, in_row, count, value_at}
-use Rattle.vf_meaning.specs.Assertions.{Pure, ContractTree, Environment}
+use Rattle.vf_meaning.specs.Assertions.{Pure, Environment}
 use Rattle.vf_meaning.specs.Sorts.{HasSort, AreOfSorts}
 use Rattle.vf_meaning.specs.Parts.{Part, nothing}
 use Rattle.vf_meaning.specs.Fits.{Fits}
-use Rattle.vf_meaning.specs.Satisfaction.{MeansAt, Satisfies}
+use Rattle.vf_meaning.specs.Satisfaction.{Satisfies}
 use Rattle.vf_meaning.specs.ShareOuts.{ShareOut, SumsTo, IsShareOut}
-use Rattle.vf_meaning.specs.Kept.{before, depth, with_result, IsAt, Promise, CallsPointer, StartsThread, StartsWith, ReturnsFrom, IsFor, IsKept, Kept}
-use Rattle.vf_meaning.specs.KeptInstances.{at, callback, thread_run, called_function, run_function, main_function, program, truth, claims, environment, events, the_call, the_start, CallsAreKept, endless, EndlessMeansNothing}
+use Rattle.vf_meaning.specs.Kept.{before, depth, with_result, IsAt, Promise, CallsPointer, StartsThread, StartsWith, IsKept, Kept}
+use Rattle.vf_meaning.specs.KeptInstances.{callback, thread_run, called_function, run_function, main_function, program, truth, claims, environment, events, CallsAreKept, EndlessMeansNothing}
 use Rattle.vf_meaning.proofs.Parts.{nothing_is_neutral, nothing_fits_empty}
 
 none_some : {A B : Type 0} {x : A} → None ≡ Some x → B
@@ -201,7 +200,7 @@ call_kept : (event : Event) (call : Promise) → event.thread ≡ 0 → CallsPoi
 unfolding main_at evaluate_one
 call_kept event call own h =
     let is = found program (before program events 0) 0 (main_at 0) [] main_function _ refl refl refl h.f h.frame h.callers _
-        (subst (λ t. IsAt program (before program events 0) t h.f h.frame h.callers (CallPointer h.target h.pointer h.signature h.operands h.place h.next)) own h.at) in
+    (subst (λ t. IsAt program (before program events 0) t h.f h.frame h.callers (CallPointer h.target h.pointer h.signature h.operands h.place h.next)) own h.at) in
     let parts = same_pointer is.step_is in
     let callee : call.callee ≡ values.Function called_function.identity = gives_same (sym h.callee ∙ ap (λ z. evaluate_one h.frame z) parts.0) in
     let type : callback ≡ call.type = some_same h.type in
@@ -229,7 +228,7 @@ start_kept : (event : Event) (call : Promise) → event.thread ≡ 0 → StartsT
 unfolding main_at
 start_kept event call own h =
     let is = found program (before program events 2) 0 (main_at 1) [] main_function _ refl refl refl h.f h.frame h.callers _
-        (subst (λ t. IsAt program (before program events 2) t h.f h.frame h.callers (Call h.target h.starter h.operands h.place h.next)) own h.at) in
+    (subst (λ t. IsAt program (before program events 2) t h.f h.frame h.callers (Call h.target h.starter h.operands h.place h.next)) own h.at) in
     let parts = same_call is.step_is in
     let type = is_run h.starter call.type parts.0 h.type in
     let values_are = two_same (gives_same (sym h.evaluated ∙ ap (λ z. evaluate_all (h.frame).locals z) parts.1)) in

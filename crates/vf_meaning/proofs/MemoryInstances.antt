@@ -1,5 +1,5 @@
 -- For a memory of each kind of block there is a part that is all of it, and that satisfies its assertion.
-use Rattle.std.proofs.Common.{◌≡◌, ◌≢◌, ℕ, zero, suc, Bool, true, false, cond, [], ◌∷◌, Some, None, slice_get, pos, refl, sym, ap, subst, ◌∙◌, ◌⊎◌, inl, inr, arith}
+use Rattle.std.proofs.Common.{◌≡◌, ◌≢◌, ℕ, zero, suc, true, false, cond, [], ◌∷◌, Some, None, slice_get, pos, refl, sym, ap, subst, ◌∙◌, inl, inr, arith}
 use Rattle.std.specs.Prelude.{codes}
 use Rattle.std.specs.Ordering.{nat_cmp, eq_by_cmp}
 use Rattle.std.specs.Cmp.{nat_cmp_total}
@@ -10,11 +10,11 @@ use Rattle.std.specs.FinMap as finite
 use Rattle.vf_tree.specs.Core.{Identity}
 use Rattle.vf_model.specs.Values.{Value, Dyadic, Odd, same_identity}
 use Rattle.vf_model.specs.Values as values
-use Rattle.vf_model.specs.Memory.{Memory, Block, Struct, Ints, Mutex, Handle, block_at}
+use Rattle.vf_model.specs.Memory.{Block, Struct, Ints, Mutex, Handle, block_at}
 use Rattle.vf_meaning.specs.Fractions.{nought, whole, sum, IsPositive}
 use Rattle.vf_meaning.specs.Parts.{Location, FieldCell, IndexCell, StructBlock, IntBlock, MutexAt, HeldAt, HandleAt, Content, CellOf, Bare, LengthOf, MutexOf, HeldOf, HandleOf, block_of, Part, nothing, single, ◌⊕◌, IsSum, HasNone, HasJust}
 use Rattle.vf_meaning.specs.Fits.{cell_content, HasThere, FitsAt, Fits}
-use Rattle.vf_meaning.specs.Chunks.{primitive, Mutexes, HeldMutexes, Handles, IntBlocks, IntCells}
+use Rattle.vf_meaning.specs.Chunks.{primitive, IntBlocks, IntCells}
 use Rattle.vf_meaning.specs.MemoryInstances.{one_block, structure, invariant, run_function, StructIsMeant, IntsAreMeant, FreeMutexIsMeant, HeldMutexIsMeant, HandleIsMeant}
 use Rattle.vf_meaning.proofs.Fractions.{nought_adds_nothing, sum_commutes}
 use Rattle.vf_meaning.proofs.Parts.{nought_or_positive, not_nought, single_only, singles_have_just_that}

@@ -1,22 +1,21 @@
 -- Sums over lists of parts open and close at any member, and a share-out leaves no race.
-use Rattle.std.proofs.Common.{◌≡◌, ◌≢◌, ℕ, zero, suc, ◌+◌, ◌<◌, Bool, true, false, ◌||◌, List, [], ◌∷◌, ◌++◌, map, length, slice_get, Option, Some, None, refl, sym, ap, subst, ◌∙◌, ◌⊎◌, inl, inr, arith}
+use Rattle.std.proofs.Common.{◌≡◌, ℕ, zero, suc, ◌<◌, Bool, true, false, ◌||◌, List, [], ◌∷◌, ◌++◌, map, length, slice_get, Option, Some, None, refl, sym, ap, subst, ◌∙◌, ◌⊎◌, inl, inr, arith}
 use Rattle.std.specs.Prelude.{IsTrue}
 use Rattle.std.specs.Bool.{MatchBool}
 use Rattle.std.specs.List.{range_with_len}
 use Rattle.std.proofs.lemmas.Option.{slice_get-get_or}
 use Rattle.std.proofs.lemmas.List.FromFn.{length-map-range_with_len, get_or-map-range_with_len}
 use Rattle.std.specs.FinMap as finite
-use Rattle.vf_tree.specs.Core.{FunctionTree, ProgramTree}
+use Rattle.vf_tree.specs.Core.{ProgramTree}
 use Rattle.vf_model.specs.Memory.{Memory, Cell, Block, Struct, Ints, Mutex, Handle, block_at, cells_at}
 use Rattle.vf_model.specs.State.{End, State, Thread}
-use Rattle.vf_model.specs.Acts.{Touch, Act, Touches}
-use Rattle.vf_model.specs.Races.{touch_in, touch_unended, next_touch, TouchesCell, Race}
-use Rattle.vf_model.specs.Steps.{act_by, next_act}
-use Rattle.vf_meaning.specs.Fractions.{nought, whole, IsPositive}
-use Rattle.vf_meaning.specs.Assertions.{Environment}
+use Rattle.vf_model.specs.Acts.{Touch}
+use Rattle.vf_model.specs.Races.{touch_in, touch_unended, next_touch}
+use Rattle.vf_model.specs.Steps.{act_by}
+use Rattle.vf_meaning.specs.Fractions.{whole, IsPositive}
 use Rattle.vf_meaning.specs.Parts.{Location, Content, Part, nothing, IsSum}
 use Rattle.vf_meaning.specs.Fits.{Fits}
-use Rattle.vf_meaning.specs.ShareOuts.{ShareOut, SumsTo, parts_of, location_in, OwnsFor, IsShareOut}
+use Rattle.vf_meaning.specs.ShareOuts.{ShareOut, SumsTo, parts_of, location_in, OwnsFor}
 use Rattle.vf_meaning.specs.ShareOutLaws.{SumsOpen, SumsClose, MembersAreApart, ShareOutsExcludeRaces}
 use Rattle.vf_meaning.proofs.Parts.{sums_turn, sums_regroup, in_left, not_nought, whole_is_alone}
 
@@ -150,17 +149,17 @@ share_outs_exclude_races e p s o h race =
     let second_part = own_part s o race.second second_started in
     elim (either (race.first_touch).writes (race.second_touch).writes race.writes) [
       | inl w ↦
-        let apart = members_are_apart (parts_of s o) (suc race.first) (suc race.second) (o.threads race.first) (o.threads race.second) h.all
-            (λ same. race.different (fewer same)) first_part second_part h.sums in
-        let one = owns_whole race.first_touch (o.threads race.first) at.0 first_owns w in
-        let other = owns_some race.second_touch (o.threads race.second) at.0 second_owns in
-        clash (o.threads race.first) (o.threads race.second) h.all s.memory at.0 one.0 other.0 apart.0 apart.1 apart.2 apart.3 h.fits one.1 other.1
+          let apart = members_are_apart (parts_of s o) (suc race.first) (suc race.second) (o.threads race.first) (o.threads race.second) h.all
+          (λ same. race.different (fewer same)) first_part second_part h.sums in
+          let one = owns_whole race.first_touch (o.threads race.first) at.0 first_owns w in
+          let other = owns_some race.second_touch (o.threads race.second) at.0 second_owns in
+          clash (o.threads race.first) (o.threads race.second) h.all s.memory at.0 one.0 other.0 apart.0 apart.1 apart.2 apart.3 h.fits one.1 other.1
       | inr w ↦
-        let apart = members_are_apart (parts_of s o) (suc race.second) (suc race.first) (o.threads race.second) (o.threads race.first) h.all
-            (λ same. race.different (sym (fewer same))) second_part first_part h.sums in
-        let one = owns_whole race.second_touch (o.threads race.second) at.0 second_owns w in
-        let other = owns_some race.first_touch (o.threads race.first) at.0 first_owns in
-        clash (o.threads race.second) (o.threads race.first) h.all s.memory at.0 one.0 other.0 apart.0 apart.1 apart.2 apart.3 h.fits one.1 other.1
+          let apart = members_are_apart (parts_of s o) (suc race.second) (suc race.first) (o.threads race.second) (o.threads race.first) h.all
+          (λ same. race.different (sym (fewer same))) second_part first_part h.sums in
+          let one = owns_whole race.second_touch (o.threads race.second) at.0 second_owns w in
+          let other = owns_some race.first_touch (o.threads race.first) at.0 first_owns in
+          clash (o.threads race.second) (o.threads race.first) h.all s.memory at.0 one.0 other.0 apart.0 apart.1 apart.2 apart.3 h.fits one.1 other.1
     ]
   where
     fewer : {a b : ℕ} → suc a ≡ suc b → a ≡ b

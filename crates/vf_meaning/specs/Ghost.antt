@@ -9,6 +9,7 @@ mutual
     Datatype : Identity → Sort
     Predicates : Sorts → Sort
 
+  -- sorts in a row
   pub data Sorts : Type 0 where
     none : Sorts
     more : Sort → Sorts → Sorts
@@ -51,6 +52,7 @@ mutual
     And Or : GhostExpression → GhostExpression → GhostExpression
     Choose : GhostExpression → GhostExpression → GhostExpression → GhostExpression
 
+  -- expressions in a row, as arguments stand
   pub data GhostExpressions : Type 0 where
     no_expressions : GhostExpressions
     and_expression : GhostExpression → GhostExpressions → GhostExpressions

@@ -1,5 +1,5 @@
 -- Small memories, one of each kind of block, and an assertion for each that speaks of all of it.
-use Rattle.std.specs.Prelude.{pos, List, [], ◌∷◌, Some, None, codes}
+use Rattle.std.specs.Prelude.{pos, [], ◌∷◌, Some, None, codes}
 use Rattle.std.specs.FinMap as finite
 use Rattle.vf_tree.specs.Core.{Identity}
 use Rattle.vf_model.specs.Values.{Value, Values, none, more, Odd}
@@ -32,14 +32,15 @@ to_it = values.Pointer 1 (pos 0)
 abbrev pub pointing : Values → Valuation
 pointing vs = of_arguments (more to_it vs)
 
--- the expression of a name by its number
+-- the first name, as an expression
 abbrev pub named : GhostExpression
 named = ghost.Variable (Numbered 0)
 
--- a struct with one field, which holds 7
+-- the struct
 abbrev pub structure : Identity
 structure = codes "one.c#s"
 
+-- a memory of one struct with one field, which holds 7
 abbrev pub struct_memory : Memory
 struct_memory = one_block (Struct structure (Some (values.Number (pos 7)) ∷ []))
 
@@ -88,10 +89,11 @@ held_assertion =
     Both (Chunk (Times whole (Numbered 2 ∷ [])) (Named (codes "<threading.h>#mutex")) (Is named ∷ Is (ghost.Variable (Numbered 1)) ∷ []))
     (Chunk (Times whole []) (Named (codes "<threading.h>#mutex_held")) (Is named ∷ Is (ghost.Variable (Numbered 1)) ∷ Is (ghost.Variable CurrentThread) ∷ Is (ghost.Variable (Numbered 2)) ∷ []))
 
--- the handle of a thread, started in a function with null
+-- the function that a thread was started in
 abbrev pub run_function : Identity
 run_function = codes "one.c#run"
 
+-- a memory of the handle of thread 1, which was started in that function with null
 abbrev pub handle_memory : Memory
 handle_memory = one_block (Handle 1 run_function values.Null)
 

@@ -25,6 +25,7 @@ abbrev mutual
   Uses (Or a b) x = Uses a x ⊎ Uses b x
   Uses (Choose c a b) x = Uses c x ⊎ (Uses a x ⊎ Uses b x)
 
+  -- a name stands in one of several expressions
   pub UsesAny : GhostExpressions → Name → Type 0
   UsesAny no_expressions x = ⊥
   UsesAny (and_expression e es) x = Uses e x ⊎ UsesAny es x
@@ -63,6 +64,7 @@ abbrev mutual
   UsesIn (Cell share e f p) x = UsesShare share x ⊎ (Uses e x ⊎ UsesPattern p x)
   UsesIn (Chunk share head ps) x = UsesShare share x ⊎ (UsesHead head x ⊎ UsesPatterns ps x)
 
+  -- a name stands in one of the branches
   pub UsesBranch : Branches → Name → Type 0
   UsesBranch no_branches x = ⊥
   UsesBranch (branch c ys a rest) x = UsesIn a x ⊎ UsesBranch rest x

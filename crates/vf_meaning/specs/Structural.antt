@@ -37,6 +37,7 @@ abbrev mutual
   UsesSmaller f k xs (Or a b) = UsesSmaller f k xs a × UsesSmaller f k xs b
   UsesSmaller f k xs (Choose c a b) = UsesSmaller f k xs c × UsesSmaller f k xs a × UsesSmaller f k xs b
 
+  -- and so in each of several expressions
   pub AllUseSmaller : Identity → ℕ → List Name → GhostExpressions → Type 0
   AllUseSmaller f k xs no_expressions = Unit {0}
   AllUseSmaller f k xs (and_expression e es) = UsesSmaller f k xs e × AllUseSmaller f k xs es
@@ -82,6 +83,7 @@ abbrev mutual
   Applies (Or a b) g = Applies a g ⊎ Applies b g
   Applies (Choose c a b) g = Applies c g ⊎ (Applies a g ⊎ Applies b g)
 
+  -- one of several expressions uses a fixpoint
   pub AnyApplies : GhostExpressions → Identity → Type 0
   AnyApplies no_expressions g = ⊥
   AnyApplies (and_expression e es) g = Applies e g ⊎ AnyApplies es g

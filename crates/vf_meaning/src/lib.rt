@@ -33,7 +33,5 @@ pub use satisfaction_laws::{
     cells_join, chunks_join, declarations_grow, depth_falls, depth_grows, halves_split,
     names_agree, rows_join, satisfying_is_consistent, scales_split,
 };
-pub use share_out_laws::{
-    members_are_apart, share_outs_exclude_races, sums_close, sums_open,
-};
+pub use share_out_laws::{members_are_apart, share_outs_exclude_races, sums_close, sums_open};
 pub use value_laws::{divides_by_nought, tells_claims, tells_names, tells_values, values_agree};
