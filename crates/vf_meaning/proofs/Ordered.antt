@@ -6,9 +6,9 @@ use Rattle.std.proofs.lemmas.Bool.{cases_Bool}
 use Rattle.vf_tree.specs.Core.{Identity}
 use Rattle.vf_model.specs.Values.{Value, Values, more, number_of, same_identity}
 use Rattle.vf_model.specs.Values as values
-use Rattle.vf_meaning.specs.Ghost.{GhostExpression, GhostExpressions, no_expressions, and_expression, Variable, Number, Truth, Null, Function, Construct, Apply, PredicateValue, Claims, Negate, Arithmetic, PointerSum, Compare, Not, And, Or, Choose, CaseTree, FixpointBody, Returns, Switches, FixpointTree}
+use Rattle.vf_meaning.specs.Ghost.{GhostExpression, GhostExpressions, no_expressions, and_expression, Variable, Number, Truth, Fraction, Null, Function, Construct, Apply, PredicateValue, Claims, Negate, Arithmetic, PointerSum, Share, Compare, Not, And, Or, Choose, CaseTree, FixpointBody, Returns, Switches, FixpointTree}
 use Rattle.vf_meaning.specs.Valuations.{Valuation, value_at, is_true, further, all_bound, of_arguments}
-use Rattle.vf_meaning.specs.GhostValues.{Interpretation, computed, compared, claimed, value_of, values_of, by_case, by_body, unfolded, unfoldings, interpreted}
+use Rattle.vf_meaning.specs.GhostValues.{Interpretation, computed, compared, shared, claimed, value_of, values_of, by_case, by_body, unfolded, unfoldings, interpreted}
 use Rattle.vf_meaning.specs.Structural.{Applies, AnyApplies, BodyApplies, AreOrdered, ListedFixpointsMeetEquations}
 use Rattle.vf_meaning.proofs.Structural.{fixpoints_meet_equations}
 
@@ -32,6 +32,7 @@ module _ (i j : Interpretation) (claims_same : i.claims ≡ j.claims) where
     value_same v (Variable y) h = refl
     value_same v (Number z) h = refl
     value_same v (Truth b) h = refl
+    value_same v (Fraction d) h = refl
     value_same v Null h = refl
     value_same v (Function g) h = refl
     value_same v (Construct c es) h = ap (λ r. values.Constructed c r) (values_same v es h)
@@ -41,6 +42,7 @@ module _ (i j : Interpretation) (claims_same : i.claims ≡ j.claims) where
     value_same v (Negate e) h = ap (λ r. values.Number (neg_ℤ (number_of r))) (value_same v e h)
     value_same v (Arithmetic op a b) h = ap₂ (λ r s. values.Number (computed op (number_of r) (number_of s))) (value_same v a (λ k x. h k (inl x))) (value_same v b (λ k x. h k (inr x)))
     value_same v (PointerSum a b) h = ap₂ (λ r s. further r (number_of s)) (value_same v a (λ k x. h k (inl x))) (value_same v b (λ k x. h k (inr x)))
+    value_same v (Share a b) h = ap₂ shared (value_same v a (λ k x. h k (inl x))) (value_same v b (λ k x. h k (inr x)))
     value_same v (Compare op a b) h = ap₂ (λ r s. values.Truth (compared op r s)) (value_same v a (λ k x. h k (inl x))) (value_same v b (λ k x. h k (inr x)))
     value_same v (Not e) h = ap (λ r. values.Truth (not (is_true r))) (value_same v e h)
     value_same v (And a b) h = ap₂ (λ r s. values.Truth (is_true r && is_true s)) (value_same v a (λ k x. h k (inl x))) (value_same v b (λ k x. h k (inr x)))

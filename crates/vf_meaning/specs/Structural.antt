@@ -2,7 +2,7 @@
 use Rattle.std.specs.Prelude.{◌≡◌, ◌≢◌, ◌⊎◌, ℕ, zero, suc, Bool, IsTrue, List, [], ◌∷◌, Contains, Option, Some, None}
 use Rattle.vf_tree.specs.Core.{Identity}
 use Rattle.vf_model.specs.Values.{Values, same_identity}
-use Rattle.vf_meaning.specs.Ghost.{Name, GhostExpression, GhostExpressions, no_expressions, and_expression, Variable, Number, Truth, Null, Function, Construct, Apply, PredicateValue, Claims, Negate, Arithmetic, PointerSum, Compare, Not, And, Or, Choose, CaseTree, FixpointBody, Returns, Switches, FixpointTree}
+use Rattle.vf_meaning.specs.Ghost.{Name, GhostExpression, GhostExpressions, no_expressions, and_expression, Variable, Number, Truth, Fraction, Null, Function, Construct, Apply, PredicateValue, Claims, Negate, Arithmetic, PointerSum, Share, Compare, Not, And, Or, Choose, CaseTree, FixpointBody, Returns, Switches, FixpointTree}
 use Rattle.vf_meaning.specs.GhostValues.{by_body, interpreted}
 
 -- the argument at a place, counted from 0
@@ -22,6 +22,7 @@ abbrev mutual
   UsesSmaller f k xs (Variable y) = Unit {0}
   UsesSmaller f k xs (Number z) = Unit {0}
   UsesSmaller f k xs (Truth b) = Unit {0}
+  UsesSmaller f k xs (Fraction d) = Unit {0}
   UsesSmaller f k xs Null = Unit {0}
   UsesSmaller f k xs (Function g) = Unit {0}
   UsesSmaller f k xs (Construct c es) = AllUseSmaller f k xs es
@@ -31,6 +32,7 @@ abbrev mutual
   UsesSmaller f k xs (Negate e) = UsesSmaller f k xs e
   UsesSmaller f k xs (Arithmetic op a b) = UsesSmaller f k xs a × UsesSmaller f k xs b
   UsesSmaller f k xs (PointerSum a b) = UsesSmaller f k xs a × UsesSmaller f k xs b
+  UsesSmaller f k xs (Share a b) = UsesSmaller f k xs a × UsesSmaller f k xs b
   UsesSmaller f k xs (Compare op a b) = UsesSmaller f k xs a × UsesSmaller f k xs b
   UsesSmaller f k xs (Not e) = UsesSmaller f k xs e
   UsesSmaller f k xs (And a b) = UsesSmaller f k xs a × UsesSmaller f k xs b
@@ -68,6 +70,7 @@ abbrev mutual
   Applies (Variable y) g = ⊥
   Applies (Number z) g = ⊥
   Applies (Truth b) g = ⊥
+  Applies (Fraction d) g = ⊥
   Applies Null g = ⊥
   Applies (Function h) g = ⊥
   Applies (Construct c es) g = AnyApplies es g
@@ -77,6 +80,7 @@ abbrev mutual
   Applies (Negate e) g = Applies e g
   Applies (Arithmetic op a b) g = Applies a g ⊎ Applies b g
   Applies (PointerSum a b) g = Applies a g ⊎ Applies b g
+  Applies (Share a b) g = Applies a g ⊎ Applies b g
   Applies (Compare op a b) g = Applies a g ⊎ Applies b g
   Applies (Not e) g = Applies e g
   Applies (And a b) g = Applies a g ⊎ Applies b g
