@@ -1,0 +1,5 @@
+pub mod Terms
+pub mod States
+pub mod Fresh
+pub mod Types
+pub mod Produce
