@@ -1,10 +1,12 @@
 -- Producing an assertion: what it says is added to a state, name by name and part by part, from left to right.
 use Rattle.std.specs.Prelude.{◌≡◌, ◌⊎◌, ℕ, zero, suc, List, [], ◌∷◌, ◌++◌, ◌-◌, Bool, true, false, drop, map, length, slice_get, Option, Some, None}
+use Rattle.std.specs.Bool.{MatchBool}
 use Rattle.vf_tree.specs.Core.{Identity, Field, TypeTree, ProgramTree, Equal, NotEqual}
-use Rattle.vf_model.specs.Values.{Value, same_identity}
+use Rattle.vf_model.specs.Values.{Value, Values, same_identity}
 use Rattle.vf_model.specs.Values as values
 use Rattle.vf_meaning.specs.Ghost.{Sort, Fractions, Name, Numbered, Null, Not, Compare, Construct, Fraction, Share}
-use Rattle.vf_meaning.specs.Valuations.{Valuation, count}
+use Rattle.vf_meaning.specs.Valuations.{Valuation}
+use Rattle.vf_meaning.specs.Sorts.{HasSort}
 use Rattle.vf_meaning.specs.Assertions.{ShareTree, Times, Taken, PatternTree, Is, Names, Wild, Head, BlockOf, Named, Family, Applied, Assertion, Pure, Empty, Both, Choose, Switch, Cell, Chunk, Branches, no_branches, branch, Environment}
 use Rattle.vf_meaning.specs.Chunks.{Primitive, IntCells, primitive}
 use Rattle.vf_rules.specs.Terms.{Term, Store, term_of, stored, in_row, times_terms, head_of, IsBound, IsBoundHead, AreBound}
@@ -40,15 +42,21 @@ known [] = []
 known (Some t ∷ ts) = t ∷ known ts
 known (None ∷ ts) = known ts
 
--- a value was made with a constructor of the branches, and has as many arguments as that branch has names
-abbrev pub IsCovered : Branches → Value → Type 0
-IsCovered no_branches w = ⊥
-IsCovered (branch c xs a rest) (values.Constructed d ws) = ((same_identity c d ≡ true) × (count ws ≡ length xs)) ⊎ ((same_identity c d ≡ false) × IsCovered rest (values.Constructed d ws))
-IsCovered (branch c xs a rest) _ = ⊥
+-- values have the sorts of the names that they are for, one by one
+abbrev pub NamesHaveSorts : Environment → List Sort → List Name → Values → Type 0
+NamesHaveSorts e sorts [] values.none = Unit {0}
+NamesHaveSorts e sorts (x ∷ xs) (values.more w ws) = ((k : ℕ) (s : Sort) → x ≡ Numbered k → slice_get sorts k ≡ Some s → HasSort e w s) × NamesHaveSorts e sorts xs ws
+NamesHaveSorts e sorts _ _ = ⊥
+
+-- a value was made with a constructor of the branches, and its arguments are as many as that branch has names, and of their sorts
+abbrev pub IsCovered : Environment → List Sort → Branches → Value → Type 0
+IsCovered e sorts no_branches w = ⊥
+IsCovered e sorts (branch c xs a rest) (values.Constructed d ws) = MatchBool (same_identity c d) (NamesHaveSorts e sorts xs ws) (IsCovered e sorts rest (values.Constructed d ws))
+IsCovered e sorts (branch c xs a rest) _ = ⊥
 
 -- on a path a term's value is one of those that the branches have
-pub record Covers (e : Environment) (path : List Fact) (t : Term) (branches : Branches) : Type 0 where
-  pub by : (v : Valuation) → Meets e v path → IsCovered branches (value_in e v t)
+pub record Covers (e : Environment) (sorts : List Sort) (path : List Fact) (t : Term) (branches : Branches) : Type 0 where
+  pub by : (v : Valuation) → Meets e v path → IsCovered e sorts branches (value_in e v t)
 
 module _ (e : Environment) (p : ProgramTree) (sorts : List Sort) (scale : Term) where
   -- what is to be shown once a fact is assumed: a state that cannot be may be dropped
@@ -87,7 +95,7 @@ module _ (e : Environment) (p : ProgramTree) (sorts : List Sort) (scale : Term) 
         IsBound s x
         × Given st (Holds (term_of s x)) (λ st1. Produce a s st1 (λ s2 st2. K s st2))
         × Given st (Holds (Not (term_of s x))) (λ st1. Produce b s st1 (λ s2 st2. K s st2))
-    Produce (Switch x branches) s st K = IsBound s x × Covers e st.path (term_of s x) branches × ProduceBranches branches (term_of s x) s st K
+    Produce (Switch x branches) s st K = IsBound s x × Covers e sorts st.path (term_of s x) branches × ProduceBranches branches (term_of s x) s st K
     Produce (Cell share pointer f x) s st K =
         IsBound s pointer
         × ProduceShare share s st (λ c s1 st1. ProducePatterns 0 (x ∷ []) s1 st1 (Some c ∷ Some (term_of s pointer) ∷ []) (λ ts s2 st2.
