@@ -1,3 +1,4 @@
 pub mod Terms
 pub mod Stands
 pub mod Arguments
+pub mod Patterns
