@@ -2,3 +2,5 @@ pub mod Terms
 pub mod Stands
 pub mod Arguments
 pub mod Patterns
+pub mod Names
+pub mod Produces

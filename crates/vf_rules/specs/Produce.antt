@@ -58,6 +58,12 @@ IsCovered e sorts (branch c xs a rest) _ = ⊥
 pub record Covers (e : Environment) (sorts : List Sort) (path : List Fact) (t : Term) (branches : Branches) : Type 0 where
   pub by : (v : Valuation) → Meets e v path → IsCovered e sorts branches (value_in e v t)
 
+-- what is known of the pointer and the content of a cell that is owned
+abbrev pub facts_of_cell : Option TypeTree → List (Option Term) → List Fact
+facts_of_cell (Some t) (Some pointer ∷ Some content ∷ []) = Holds (Compare NotEqual pointer Null) ∷ facts_of_type t content
+facts_of_cell _ (Some pointer ∷ content) = Holds (Compare NotEqual pointer Null) ∷ []
+facts_of_cell _ _ = []
+
 module _ (e : Environment) (p : ProgramTree) (sorts : List Sort) (scale : Term) where
   -- what is to be shown once a fact is assumed: a state that cannot be may be dropped
   abbrev pub Given : SymbolicState → Fact → (SymbolicState → Type 0) → Type 0
@@ -78,12 +84,6 @@ module _ (e : Environment) (p : ProgramTree) (sorts : List Sort) (scale : Term) 
   ProduceShare (Times d ys) s st K = AreBound s ys × K (Share scale (times_terms s (Fraction d) ys)) s st
   ProduceShare (Taken x) s st K =
       (y : ℕ) × IsNew y scale s [] st × (s x ≡ None) × K (Share scale (symbol y)) (stored s x (symbol y)) (assuming_all st (OfSort (symbol y) Fractions ∷ []))
-
-  -- what is known of the pointer and the content of a cell that is owned
-  abbrev pub facts_of_cell : Option TypeTree → List (Option Term) → List Fact
-  facts_of_cell (Some t) (Some pointer ∷ Some content ∷ []) = Holds (Compare NotEqual pointer Null) ∷ facts_of_type t content
-  facts_of_cell _ (Some pointer ∷ content) = Holds (Compare NotEqual pointer Null) ∷ []
-  facts_of_cell _ _ = []
 
   abbrev mutual
     -- what is to hold where an assertion has been produced, with the store and the state that then stand

@@ -1,5 +1,6 @@
 -- Values of the types of C, the facts that say of a term that it has one, and parts whose contents have their types.
-use Rattle.std.specs.Prelude.{◌≡◌, ℕ, ℤ, List, [], ◌∷◌, slice_get, Option, Some, None}
+use Rattle.std.specs.Prelude.{◌≡◌, ℕ, ℤ, Bool, true, false, cond, List, [], ◌∷◌, slice_get, Option, Some, None}
+use Rattle.std.specs.Bool.{MatchBool}
 use Rattle.std.specs.List.{find}
 use Rattle.vf_base.specs.declared.int_type.IntType.{IntType}
 use Rattle.vf_base.specs.declared.int_type.IntType.TheVariants as types
@@ -23,12 +24,24 @@ IsPointer (values.Pointer b o) = Unit {0}
 IsPointer (values.Function g) = Unit {0}
 IsPointer _ = ⊥
 
+-- whether an integer type is bool
+abbrev pub is_bool : IntType → Bool
+is_bool types.Bool = true
+is_bool _ = false
+
+-- a value is a truth value
+abbrev pub IsTruth : Value → Type 0
+IsTruth (values.Truth b) = Unit {0}
+IsTruth _ = ⊥
+
+-- a value is a number in range of a type
+abbrev pub IsNumberIn : IntType → Value → Type 0
+IsNumberIn t (values.Number z) = InRange t z
+IsNumberIn t _ = ⊥
+
 -- a value of an integer type: a truth value of bool, and a number in range of any other (C11 6.2.5)
 abbrev pub IsOfInteger : IntType → Value → Type 0
-IsOfInteger types.Bool (values.Truth b) = Unit {0}
-IsOfInteger types.Bool _ = ⊥
-IsOfInteger t (values.Number z) = InRange t z
-IsOfInteger t _ = ⊥
+IsOfInteger t w = MatchBool (is_bool t) (IsTruth w) (IsNumberIn t w)
 
 -- a value of a type of C
 abbrev pub IsOfType : TypeTree → Value → Type 0
@@ -39,10 +52,11 @@ IsOfType PointerToInt w = IsPointer w
 IsOfType (PointerToStruct g) w = IsPointer w
 IsOfType (PointerToFunction g) w = IsPointer w
 
--- what is known of a term that has a value of an integer type: its range
+-- what is known of a term that has a value of an integer type: its sort, and of a number its range
 abbrev pub facts_of_integer : IntType → Term → List Fact
-facts_of_integer types.Bool t = OfSort t Truths ∷ []
-facts_of_integer u t = OfSort t Integers ∷ Holds (Compare LessEqual (Number (least u)) t) ∷ Holds (Compare LessEqual t (Number (greatest u))) ∷ []
+facts_of_integer u t =
+    cond (is_bool u) (OfSort t Truths ∷ [])
+    (OfSort t Integers ∷ Holds (Compare LessEqual (Number (least u)) t) ∷ Holds (Compare LessEqual t (Number (greatest u))) ∷ [])
 
 -- what is known of a term that has a value of a type of C
 abbrev pub facts_of_type : TypeTree → Term → List Fact
