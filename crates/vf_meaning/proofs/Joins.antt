@@ -14,7 +14,7 @@ use Rattle.vf_meaning.specs.SatisfactionLaws.{IsOfOneLocation, HeadsOneLocation,
 use Rattle.vf_meaning.proofs.Fractions.{product_distributes, stays_positive}
 use Rattle.vf_meaning.proofs.Parts.{parts_add, sums_turn, sums_regroup, single_here, singles_add}
 
-same_content : (l : Location) (c d : Content) (x y : Dyadic) (p q r : Part) → p ≡ single l c x → q ≡ single l d y → IsSum p q r → IsPositive x → IsPositive y → c ≡ d
+pub same_content : (l : Location) (c d : Content) (x y : Dyadic) (p q r : Part) → p ≡ single l c x → q ≡ single l d y → IsSum p q r → IsPositive x → IsPositive y → c ≡ d
 same_content l c d x y p q r e f h a b =
     h.agree l c d (subst IsPositive (sym (ap (λ z. z l c) e ∙ single_here l c x)) a) (subst IsPositive (sym (ap (λ z. z l d) f ∙ single_here l d y)) b)
 
@@ -55,7 +55,7 @@ cells_join e n s t share x f w v p q r a b h k sums =
     )
 
 -- ---- one location
-one_location : (l k : Location) (c d : Content) (x y : Dyadic) (p q r : Part) → l ≡ k → p ≡ single l c x → q ≡ single k d y → IsSum p q r → IsPositive x → IsPositive y → r ≡ single l c (sum x y)
+pub one_location : (l k : Location) (c d : Content) (x y : Dyadic) (p q r : Part) → l ≡ k → p ≡ single l c x → q ≡ single k d y → IsSum p q r → IsPositive x → IsPositive y → r ≡ single l c (sum x y)
 one_location l k c d x y p q r e h i s a b =
     let there = subst (λ z. q ≡ single z d y) (sym e) i in
     let same = same_content l c d x y p q r h there s a b in
@@ -64,7 +64,7 @@ one_location l k c d x y p q r e h i s a b =
 first_met : (w : Value) (ws : List Wanted) (u : Value) (us : List Value) → AllMeet (Just w ∷ ws) (u ∷ us) → u ≡ w
 first_met w ws u us h = h.0
 
-same_start : (b c : ℕ) (w : Value) → start_of b ≡ w → start_of c ≡ w → b ≡ c
+pub same_start : (b c : ℕ) (w : Value) → start_of b ≡ w → start_of c ≡ w → b ≡ c
 same_start b c w e f = cc
 
 blocks_joined : (x y : Dyadic) (g : Identity) (w : Value) (ws : List Wanted) (p q r : Part) → IsPositive x → IsPositive y → IsStructBlock x g (Just w ∷ ws) p → IsStructBlock y g (Just w ∷ ws) q → IsSum p q r → IsStructBlock (sum x y) g (Just w ∷ ws) r
@@ -182,7 +182,7 @@ row_joined x y b k (c ∷ cs) (d ∷ ds) p q r i j l h m s =
     let own = one_location (IndexCell b k) (IndexCell b k) (CellOf c) (CellOf d) x y _ _ g.firsts refl refl refl g.first_sum i j in
     (g.others, subst (λ z. IsSum z g.others r) own g.all, row_joined x y b (suc k) cs ds h.0 m.0 g.others i j (omega (arith, l)) h.2 m.2 g.other_sum)
 
-row_at_joined : (x y : Dyadic) (w : Value) (row other : List (Option Value)) (p q r : Part) → IsPositive x → IsPositive y → length row ≡ length other
+pub row_at_joined : (x y : Dyadic) (w : Value) (row other : List (Option Value)) (p q r : Part) → IsPositive x → IsPositive y → length row ≡ length other
     → IsRowAt x w row p → IsRowAt y w other q → IsSum p q r → IsRowAt (sum x y) w row r
 row_at_joined x y w [] [] p q r i j l h m s = nothing_and_nothing p q r h m s
 row_at_joined x y w [] (c ∷ cs) p q r i j l h m s = absurd (unlike (length cs) l)

@@ -4,3 +4,4 @@ pub mod Arguments
 pub mod Patterns
 pub mod Names
 pub mod Produces
+pub mod Takes

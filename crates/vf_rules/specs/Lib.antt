@@ -3,3 +3,5 @@ pub mod States
 pub mod Fresh
 pub mod Types
 pub mod Produce
+pub mod Take
+pub mod Consume
