@@ -5,3 +5,4 @@ pub mod Patterns
 pub mod Names
 pub mod Produces
 pub mod Takes
+pub mod Fits
