@@ -103,7 +103,7 @@ module _ (M : Dyadic → BodyName → Values → Part → Type 0) where
 abbrev pub StoreSorted : Environment → Valuation → List Sort → Store → Type 0
 StoreSorted e v sorts s = (k : ℕ) (so : Sort) (t : Term) → s (Numbered k) ≡ Some t → slice_get sorts k ≡ Some so → HasSort e (value_in e v t) so
 
-entailed : (e : Environment) (path : List Fact) (fs : List Fact) → EntailsAll e path fs → (v : Valuation) → states.Meets e v path → states.Meets e v fs
+pub entailed : (e : Environment) (path : List Fact) (fs : List Fact) → EntailsAll e path fs → (v : Valuation) → states.Meets e v path → states.Meets e v fs
 entailed e path [] h v m = tt
 entailed e path (f ∷ fs) h v m = ((h.0).by v m, entailed e path fs h.1 v m)
 
@@ -188,7 +188,7 @@ number_fraction : {z : _} {x : Dyadic} {A : Type 0} → values.Number z ≡ valu
 number_fraction e = cc
 
 -- both factors of a product that is a fraction are fractions
-both_fractions : (a b : Value) (x : Dyadic) → shared a b ≡ values.Fraction x → (c : Dyadic) × (d : Dyadic) × (a ≡ values.Fraction c) × (b ≡ values.Fraction d) × (product c d ≡ x)
+pub both_fractions : (a b : Value) (x : Dyadic) → shared a b ≡ values.Fraction x → (c : Dyadic) × (d : Dyadic) × (a ≡ values.Fraction c) × (b ≡ values.Fraction d) × (product c d ≡ x)
 both_fractions (values.Fraction c) (values.Fraction d) x h = (c, d, refl, refl, fraction_same h)
 both_fractions (values.Fraction c) (values.Number z) x h = number_fraction h
 both_fractions (values.Fraction c) (values.Truth b) x h = number_fraction h
@@ -208,7 +208,7 @@ both_fractions (values.Predicate g vs) b x h = number_fraction h
 of_fraction : (w : Value) (x : Dyadic) → w ≡ values.Fraction x → fraction_in w ≡ Some x
 of_fraction w x h = ap fraction_in h
 
-times_back : (e : Environment) (v : Valuation) (s : Store) (w : Valuation) (d : Dyadic) (ys : List Name) (x : Dyadic) → AreBound s ys → StoreMeans e v s w
+pub times_back : (e : Environment) (v : Valuation) (s : Store) (w : Valuation) (d : Dyadic) (ys : List Name) (x : Dyadic) → AreBound s ys → StoreMeans e v s w
     → value_in e v (times_terms s (Fraction d) ys) ≡ values.Fraction x → times_names w d ys ≡ Some x
 times_back e v s w d [] x b means h = ap Some (fraction_same h)
 times_back e v s w d (y ∷ ys) x b means h =

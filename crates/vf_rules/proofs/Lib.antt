@@ -6,3 +6,5 @@ pub mod Names
 pub mod Produces
 pub mod Takes
 pub mod Fits
+pub mod CaseNames
+pub mod Consumes

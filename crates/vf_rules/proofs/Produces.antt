@@ -62,14 +62,14 @@ typed_right : (e : Environment) (prog : ProgramTree) (p q r : Part) → IsSum p 
 typed_right e prog p q r s h l c x = h l c (in_right p q r s l c x)
 
 -- ---- facts
-true_value : (e : Environment) (v : Valuation) (s : Store) (w : Valuation) (x : _) → IsBound s x → StoreMeans e v s w → IsTrue (is_true (value_of (meaning e) w x)) → IsMet e v (Holds (term_of s x))
+pub true_value : (e : Environment) (v : Valuation) (s : Store) (w : Valuation) (x : _) → IsBound s x → StoreMeans e v s w → IsTrue (is_true (value_of (meaning e) w x)) → IsMet e v (Holds (term_of s x))
 true_value e v s w x b m h = subst (λ z. IsTrue (is_true z)) (sym (bound_value e v s w x b m)) h
 
-false_value : (e : Environment) (v : Valuation) (s : Store) (w : Valuation) (x : _) → IsBound s x → StoreMeans e v s w → is_true (value_of (meaning e) w x) ≡ false → IsMet e v (Holds (Not (term_of s x)))
+pub false_value : (e : Environment) (v : Valuation) (s : Store) (w : Valuation) (x : _) → IsBound s x → StoreMeans e v s w → is_true (value_of (meaning e) w x) ≡ false → IsMet e v (Holds (Not (term_of s x)))
 false_value e v s w x b m h = subst (λ z. IsTrue (not (is_true z))) (sym (bound_value e v s w x b m)) (ap not h)
 
 module _ (e : Environment) (prog : ProgramTree) (sorts : List Sort) (scale : Term) (locals : List (Option Value)) (names : Valuation) where
-  given : (st : SymbolicState) (f : Fact) (K : SymbolicState → Type 0) → Given e prog sorts scale st f K → (v : Valuation) (p : Part) → StandsFor e v st locals names p → IsMet e v f → K (assuming st f)
+  pub given : (st : SymbolicState) (f : Fact) (K : SymbolicState → Type 0) → Given e prog sorts scale st f K → (v : Valuation) (p : Part) → StandsFor e v st locals names p → IsMet e v f → K (assuming st f)
   given st f K k v p m h = elim k [ inl never ↦ absurd (never.by v (meets_more e v st.path (f ∷ []) m.path (h, tt))) | inr go ↦ go ]
 
 -- ---- what is known of a cell
@@ -176,7 +176,7 @@ two_one h = cc
 one_same : {a b : Wanted} → (b ∷ []) ≡ (a ∷ []) → b ≡ a
 one_same h = cc
 
-single_argument : (e : Environment) (v : Valuation) (new : List (Option Term)) (a : Wanted) → map (wanted_in e v) new ≡ (a ∷ []) → (o : Option Term) × (new ≡ o ∷ []) × (wanted_in e v o ≡ a)
+pub single_argument : (e : Environment) (v : Valuation) (new : List (Option Term)) (a : Wanted) → map (wanted_in e v) new ≡ (a ∷ []) → (o : Option Term) × (new ≡ o ∷ []) × (wanted_in e v o ≡ a)
 single_argument e v [] a h = nil_one h
 single_argument e v (o ∷ []) a h = (o, refl, one_same h)
 single_argument e v (o ∷ p ∷ ps) a h = two_one h
@@ -271,7 +271,7 @@ module _ (e : Environment) (prog : ProgramTree) (sorts : List Sort) (scale : Ter
       }
 
   -- the equation of a branch
-  constructed_met : (v : Valuation) (t : Term) (f d : Identity) (new : List (Option Term)) (us : Values) → same_identity f d ≡ true → value_in e v t ≡ values.Constructed d us
+  pub constructed_met : (v : Valuation) (t : Term) (f d : Identity) (new : List (Option Term)) (us : Values) → same_identity f d ≡ true → value_in e v t ≡ values.Constructed d us
       → map (wanted_in e v) new ≡ map (λ u. Just u) (listed us) → IsMet e v (Holds (Compare Equal t (Construct f (terms.in_row (known new)))))
   constructed_met v t f d new us same is new_are =
       let arguments : values_of (meaning e) v (terms.in_row (known new)) ≡ us = known_values e v new (listed us) new_are ∙ row_listed us in

@@ -37,7 +37,7 @@ fraction_same : {x y : Dyadic} → values.Fraction x ≡ values.Fraction y → x
 fraction_same e = cc
 
 -- ---- a head's share in two
-rescaled : (e : Environment) (n : ℕ) (s t x : Dyadic) (head : Head) (v : Valuation) (ws : List Wanted) (p : Part) → SatisfiesHead (MeansAt e n) (meaning e) s x head v ws p → SatisfiesHead (MeansAt e n) (meaning e) t x head v ws p
+pub rescaled : (e : Environment) (n : ℕ) (s t x : Dyadic) (head : Head) (v : Valuation) (ws : List Wanted) (p : Part) → SatisfiesHead (MeansAt e n) (meaning e) s x head v ws p → SatisfiesHead (MeansAt e n) (meaning e) t x head v ws p
 rescaled e n s t x (BlockOf g) v ws p h = h
 rescaled e n s t x (Named q) v ws p h = h
 rescaled e n s t x (Family q y) v ws p h = h
