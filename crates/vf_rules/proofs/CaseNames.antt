@@ -12,14 +12,15 @@ use Rattle.vf_meaning.specs.Sorts.{HasSort}
 use Rattle.vf_meaning.specs.Parts.{Part}
 use Rattle.vf_meaning.specs.Chunks.{Wanted, Just}
 use Rattle.vf_meaning.proofs.Values.{tells_names}
+use Rattle.vf_rules.specs.Laws.{Grows, StoreSorted}
 use Rattle.vf_rules.specs.Terms.{Term, Store, stored}
 use Rattle.vf_rules.specs.States.{SymbolicState, value_in, Meets, wanted_in, StoreMeans, StandsFor, assuming_all}
 use Rattle.vf_rules.specs.Fresh.{symbol}
 use Rattle.vf_rules.specs.Produce.{facts_of_sort, facts_of_name, NamesHaveSorts, ProducePatterns}
-use Rattle.vf_rules.proofs.Terms.{own_symbol, fresh_value, stored_own, Grows, stored_grows}
+use Rattle.vf_rules.proofs.Terms.{own_symbol, fresh_value, stored_own, stored_grows}
 use Rattle.vf_rules.proofs.Stands.{stands_fresh, assuming_all_stands}
 use Rattle.vf_rules.proofs.Arguments.{Among, among_more, among_last, among_uses}
-use Rattle.vf_rules.proofs.Fits.{StoreSorted, stored_sorted}
+use Rattle.vf_rules.proofs.Fits.{stored_sorted}
 
 -- a way on after the names, with the values that they stand for
 pub record NamesRead (e : Environment) (sorts : List Sort) (K : List (Option Term) → Store → SymbolicState → Type 0) (v : Valuation) (scale : Term) (s : Store) (before : List (Option Term)) (xs : List Name) (us : Values)

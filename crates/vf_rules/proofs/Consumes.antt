@@ -17,6 +17,7 @@ use Rattle.vf_meaning.specs.Chunks.{fraction_of, Wanted, Just, wanted, IsFieldCe
 use Rattle.vf_meaning.specs.Satisfaction.{IsShare, SatisfiesFamily, SatisfiesValue, SatisfiesHead, SatisfiesBranch, MeansAt, SatisfiesAt}
 use Rattle.vf_meaning.proofs.Parts.{sums_turn, sums_regroup, nothing_is_neutral}
 use Rattle.vf_meaning.proofs.Satisfaction.{depth_grows}
+use Rattle.vf_rules.specs.Laws.{Grows, StoreSorted}
 use Rattle.vf_rules.specs.Terms.{Term, Store, term_of, stored, times_terms, head_of, IsBound, IsBoundHead}
 use Rattle.vf_rules.specs.Terms as terms
 use Rattle.vf_rules.specs.States.{Fact, Holds, ChunkHead, CellOf, Of, SymbolicChunk, SymbolicState, meaning, value_in, IsMet, Meets, wanted_in, HeadMeans, ChunkMeans, ChunksMean, StoreMeans, StandsFor, assuming, with_chunks}
@@ -24,7 +25,7 @@ use Rattle.vf_rules.specs.Fresh.{symbol}
 use Rattle.vf_rules.specs.Produce.{known, facts_of_name, NamesHaveSorts, IsCovered, Given, ProducePatterns}
 use Rattle.vf_rules.specs.Take.{same, with_share, IsQuotient, Takes, Removes, Changes}
 use Rattle.vf_rules.specs.Consume.{EntailsAll, HeadFits, ConsumePatterns, ConsumeShare, Consume, ConsumeBranches}
-use Rattle.vf_rules.proofs.Terms.{bound_value, stored_own, Grows, stored_grows, grown_means}
+use Rattle.vf_rules.proofs.Terms.{bound_value, stored_own, stored_grows, grown_means}
 use Rattle.vf_rules.proofs.Stands.{assuming_stands}
 use Rattle.vf_rules.proofs.Patterns.{Read, patterns_read}
 use Rattle.vf_rules.proofs.Arguments.{refined_none}
@@ -32,7 +33,7 @@ use Rattle.vf_rules.proofs.Names.{names_unbound, names_distinct, names_values, n
 use Rattle.vf_rules.proofs.Produces.{true_value, false_value, given, constructed_met, single_argument}
 use Rattle.vf_rules.proofs.CaseNames.{NamesRead, names_read}
 use Rattle.vf_rules.proofs.Takes.{same_value, rescaled, Parted, takes_parted, removes_parted, changes_stand}
-use Rattle.vf_rules.proofs.Fits.{AllWeaker, cell_less, head_less, StoreSorted, entailed, stored_sorted, PatternsFit, patterns_fit, both_fractions, times_back, positive_factor}
+use Rattle.vf_rules.proofs.Fits.{AllWeaker, cell_less, head_less, entailed, stored_sorted, PatternsFit, patterns_fit, both_fractions, times_back, positive_factor}
 
 -- a way on after an assertion: what satisfies it is split off
 pub record Consumed (e : Environment) (sorts : List Sort) (K : Store → SymbolicState → Type 0) (S : ℕ → Valuation → Part → Type 0) (v : Valuation) (scale : Term) (s : Store)

@@ -22,7 +22,8 @@ use Rattle.vf_rules.specs.States as states
 use Rattle.vf_rules.specs.Produce.{facts_of_sort, facts_of_name}
 use Rattle.vf_rules.specs.Take.{same, IsQuotient, Takes, Removes}
 use Rattle.vf_rules.specs.Consume.{EntailsAll, ConsumePatterns, ConsumeShare}
-use Rattle.vf_rules.proofs.Terms.{bound_value, bound_named, named_term, stored_own, stored_other, Grows, stored_grows, grown_means, fraction_is}
+use Rattle.vf_rules.proofs.Terms.{bound_value, bound_named, named_term, stored_own, stored_other, stored_grows, grown_means, fraction_is}
+use Rattle.vf_rules.specs.Laws.{Grows, StoreSorted}
 use Rattle.vf_rules.proofs.Takes.{same_value}
 
 -- ---- what is asked may be less than what is known
@@ -100,9 +101,6 @@ module _ (M : Dyadic → BodyName → Values → Part → Type 0) where
   head_less i s x (Applied t) v ws us p h m = value_less x (value_of i v t) ws us p h m
 
 -- ---- stores whose terms have the sorts of the names
-abbrev pub StoreSorted : Environment → Valuation → List Sort → Store → Type 0
-StoreSorted e v sorts s = (k : ℕ) (so : Sort) (t : Term) → s (Numbered k) ≡ Some t → slice_get sorts k ≡ Some so → HasSort e (value_in e v t) so
-
 pub entailed : (e : Environment) (path : List Fact) (fs : List Fact) → EntailsAll e path fs → (v : Valuation) → states.Meets e v path → states.Meets e v fs
 entailed e path [] h v m = tt
 entailed e path (f ∷ fs) h v m = ((h.0).by v m, entailed e path fs h.1 v m)

@@ -8,3 +8,4 @@ pub mod Takes
 pub mod Fits
 pub mod CaseNames
 pub mod Consumes
+pub mod Told

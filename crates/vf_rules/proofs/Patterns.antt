@@ -15,12 +15,13 @@ use Rattle.vf_meaning.specs.Parts.{Part}
 use Rattle.vf_meaning.specs.Chunks.{product_if, times_names, fraction_of, Wanted, Just, wanted}
 use Rattle.vf_meaning.specs.Chunks as chunks
 use Rattle.vf_meaning.specs.Fractions.{IsPositive}
+use Rattle.vf_rules.specs.Laws.{Grows}
 use Rattle.vf_rules.specs.Terms.{Term, Store, term_named, term_of, stored, times_terms, AreBound}
 use Rattle.vf_rules.specs.States.{Fact, OfSort, SymbolicState, meaning, value_in, IsMet, Meets, wanted_in, StoreMeans, StandsFor, assuming_all}
 use Rattle.vf_rules.specs.Fresh.{symbol, UsesArguments, IsNew}
 use Rattle.vf_rules.specs.Produce.{facts_of_sort, facts_of_name, ProducePatterns, ProduceShare}
 use Rattle.vf_rules.specs.Types.{facts_of_type}
-use Rattle.vf_rules.proofs.Terms.{bound_value, bound_named, own_symbol, fresh_value, fresh_store, stored_means, Grows, stored_grows, fraction_is}
+use Rattle.vf_rules.proofs.Terms.{bound_value, bound_named, own_symbol, fresh_value, fresh_store, stored_means, stored_grows, fraction_is}
 use Rattle.vf_rules.proofs.Stands.{stands_fresh, assuming_all_stands}
 use Rattle.vf_rules.proofs.Arguments.{first, rest, refine_one, refined, Among, among_more, among_last, among_uses}
 

@@ -25,13 +25,14 @@ use Rattle.vf_meaning.specs.Satisfaction.{SatisfiesFamily, SatisfiesValue, Satis
 use Rattle.vf_meaning.proofs.Values.{tells_values}
 use Rattle.vf_meaning.proofs.Fractions.{stays_positive}
 use Rattle.vf_meaning.proofs.Parts.{sums_turn, sums_regroup, nothing-⊕, in_left, in_right, single_here}
+use Rattle.vf_rules.specs.Laws.{Grows}
 use Rattle.vf_rules.specs.Terms.{Term, Store, term_of, head_of, IsBound, IsBoundHead}
 use Rattle.vf_rules.specs.Terms as terms
 use Rattle.vf_rules.specs.States.{Fact, Holds, OfSort, ChunkHead, CellOf, Of, SymbolicChunk, SymbolicState, meaning, value_in, IsMet, Meets, Infeasible, wanted_in, HeadMeans, ChunkMeans, StoreMeans, StandsFor, assuming, assuming_all, with_chunk}
 use Rattle.vf_rules.specs.States as states
 use Rattle.vf_rules.specs.Types.{IsPointer, is_bool, IsTruth, IsNumberIn, IsOfInteger, IsOfType, facts_of_integer, facts_of_type, type_of_field, IsTypedContent, IsTypedPart}
 use Rattle.vf_rules.specs.Produce.{known, NamesHaveSorts, IsCovered, Given, ProducePatterns, facts_of_cell, Produce, ProduceBranches, valued_arguments}
-use Rattle.vf_rules.proofs.Terms.{bound_value, term_value, Grows, grown_means}
+use Rattle.vf_rules.proofs.Terms.{bound_value, term_value, grown_means}
 use Rattle.vf_rules.proofs.Stands.{meets_more, assuming_stands, assuming_all_stands, with_chunk_stands}
 use Rattle.vf_rules.proofs.Arguments.{refined, refine_none, refined_none, head_valued, Among}
 use Rattle.vf_rules.proofs.Patterns.{Read, patterns_read, ShareRead, share_read}

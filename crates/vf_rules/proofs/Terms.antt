@@ -14,6 +14,7 @@ use Rattle.vf_meaning.proofs.Values.{agreed, tells_names}
 use Rattle.vf_rules.specs.Terms.{Term, Store, term_named, term_of, terms_of, stored, times_terms, IsBound, AreBound}
 use Rattle.vf_rules.specs.States.{meaning, value_in, StoreMeans}
 use Rattle.vf_rules.specs.Fresh.{symbol, IsFreshIn}
+use Rattle.vf_rules.specs.Laws.{Grows}
 
 -- ---- the value of an expression with terms for its names
 module _ (i : Interpretation) (v : Valuation) (s : Store) where
@@ -98,10 +99,6 @@ stored_means e v s w x t m h y u k =
       | inl same ↦ ap (value_in e v) (some_same (sym k ∙ ap (λ b. cond b (Some t) (s y)) same)) ∙ h ∙ ap w (sym ((tells_names y x).0 same))
       | inr other ↦ m y u (sym (ap (λ b. cond b (Some t) (s y)) other) ∙ k)
     ]
-
--- one store has all that another has
-abbrev pub Grows : Store → Store → Type 0
-Grows s r = (x : Name) (t : Term) → s x ≡ Some t → r x ≡ Some t
 
 none_some : {A B : Type 0} {x : A} → None ≡ Some x → B
 none_some e = cc

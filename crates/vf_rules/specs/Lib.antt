@@ -5,3 +5,4 @@ pub mod Types
 pub mod Produce
 pub mod Take
 pub mod Consume
+pub mod Laws

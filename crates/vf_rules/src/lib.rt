@@ -3,3 +3,7 @@
 //! The definitions stand in `specs/`, over those of the machine and of assertions; the code here is
 //! public functions with an empty body, each of which has a law as its contract.
 #![tactic(auto)]
+
+mod laws;
+
+pub use laws::{changes_keep, consuming_takes, joining_keeps, producing_adds};
