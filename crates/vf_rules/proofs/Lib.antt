@@ -9,3 +9,4 @@ pub mod Fits
 pub mod CaseNames
 pub mod Consumes
 pub mod Told
+pub mod Opening

@@ -56,10 +56,10 @@ nothing_sum q p r e s = s.adds ∙ ap (λ z. z ⊕ p) e ∙ nothing-⊕ p
 stands_at : (e : Environment) (v : Valuation) (st : SymbolicState) (locals : List (Option Value)) (names : Valuation) (p r : Part) → r ≡ p → StandsFor e v st locals names p → StandsFor e v st locals names r
 stands_at e v st locals names p r h m = subst (λ z. StandsFor e v st locals names z) (sym h) m
 
-typed_left : (e : Environment) (prog : ProgramTree) (p q r : Part) → IsSum p q r → IsTypedPart e prog r → IsTypedPart e prog p
+pub typed_left : (e : Environment) (prog : ProgramTree) (p q r : Part) → IsSum p q r → IsTypedPart e prog r → IsTypedPart e prog p
 typed_left e prog p q r s h l c x = h l c (in_left p q r s l c x)
 
-typed_right : (e : Environment) (prog : ProgramTree) (p q r : Part) → IsSum p q r → IsTypedPart e prog r → IsTypedPart e prog q
+pub typed_right : (e : Environment) (prog : ProgramTree) (p q r : Part) → IsSum p q r → IsTypedPart e prog r → IsTypedPart e prog q
 typed_right e prog p q r s h l c x = h l c (in_right p q r s l c x)
 
 -- ---- facts

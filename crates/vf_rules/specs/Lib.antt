@@ -6,3 +6,5 @@ pub mod Produce
 pub mod Take
 pub mod Consume
 pub mod Laws
+pub mod Predicates
+pub mod PredicateLaws

@@ -5,5 +5,7 @@
 #![tactic(auto)]
 
 mod laws;
+mod predicate_laws;
 
 pub use laws::{changes_keep, consuming_takes, joining_keeps, producing_adds};
+pub use predicate_laws::{closing_keeps, opening_keeps};
