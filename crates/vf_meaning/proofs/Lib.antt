@@ -1,10 +1,12 @@
 pub mod Fractions
 pub mod Values
 pub mod Structural
+pub mod Ordered
 pub mod Parts
 pub mod Satisfaction
 pub mod Growth
 pub mod Joins
+pub mod ShareOuts
 mod Examples
-mod KeptExample
-mod MemoryExample
+pub mod KeptInstances
+pub mod MemoryInstances

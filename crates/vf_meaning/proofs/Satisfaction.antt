@@ -181,12 +181,12 @@ satisfying_is_consistent e n s a v p h = satisfying_consistent (MeansAt e n) (me
 
 -- ---- scales split
 -- two parts of one
-record Two (S T : Part → Type 0) (p : Part) : Type 0 where
-  left : Part
-  right : Part
-  sums : IsSum left right p
-  first : S left
-  second : T right
+pub record Two (S T : Part → Type 0) (p : Part) : Type 0 where
+  pub left : Part
+  pub right : Part
+  pub sums : IsSum left right p
+  pub first : S left
+  pub second : T right
 
 ⊕-left : (p q r : Part) → p ⊕ (q ⊕ r) ≡ q ⊕ (p ⊕ r)
 ⊕-left p q r = sym (⊕-assoc p q r) ∙ ap (λ x. x ⊕ r) (⊕-comm p q) ∙ ⊕-assoc q p r
@@ -220,13 +220,13 @@ two_both S T U V p q r h a b =
       second = (a.right, b.right, rights, a.second, b.second);
     }
 
-two_map : (S T U V : Part → Type 0) (p : Part) → ((q : Part) → S q → U q) → ((q : Part) → T q → V q) → Two S T p → Two U V p
+pub two_map : (S T U V : Part → Type 0) (p : Part) → ((q : Part) → S q → U q) → ((q : Part) → T q → V q) → Two S T p → Two U V p
 two_map S T U V p f g h = record { left = h.left; right = h.right; sums = h.sums; first = f h.left h.first; second = g h.right h.second }
 
-two_nothing : (S T : Part → Type 0) (p : Part) → p ≡ nothing → S nothing → T nothing → Two S T p
+pub two_nothing : (S T : Part → Type 0) (p : Part) → p ≡ nothing → S nothing → T nothing → Two S T p
 two_nothing S T p e a b = record { left = nothing; right = nothing; sums = subst (λ x. IsSum nothing nothing x) (sym e) (nothing_is_neutral nothing); first = a; second = b }
 
-two_single : (l : Location) (c : Content) (x y : Dyadic) (p : Part) → p ≡ single l c (sum x y) → Two (λ q. q ≡ single l c x) (λ q. q ≡ single l c y) p
+pub two_single : (l : Location) (c : Content) (x y : Dyadic) (p : Part) → p ≡ single l c (sum x y) → Two (λ q. q ≡ single l c x) (λ q. q ≡ single l c y) p
 two_single l c x y p e = record { left = single l c x; right = single l c y; sums = subst (λ z. IsSum (single l c x) (single l c y) z) (sym e) (singles_add l c x y); first = refl; second = refl }
 
 two_row : (x y : Dyadic) (b k : ℕ) (row : List (Option Value)) (p : Part) → IsRow (sum x y) b k row p → Two (IsRow x b k row) (IsRow y b k row) p
@@ -277,7 +277,7 @@ module _ (M : Dyadic → BodyName → Values → Part → Type 0)
   two_applied x y _ ws p h = absurd h
 
   module _ (i : Interpretation) (s t : Dyadic) where
-    two_head : (x y : Dyadic) (head : Head) (v : Valuation) (ws : List Wanted) (p : Part) → SatisfiesHead M i (sum s t) (sum x y) head v ws p → Two (SatisfiesHead M i s x head v ws) (SatisfiesHead M i t y head v ws) p
+    pub two_head : (x y : Dyadic) (head : Head) (v : Valuation) (ws : List Wanted) (p : Part) → SatisfiesHead M i (sum s t) (sum x y) head v ws p → Two (SatisfiesHead M i s x head v ws) (SatisfiesHead M i t y head v ws) p
     two_head x y (BlockOf g) v ws p h =
         two_map _ _ _ _ p (λ r e. record { block = h.block; meet = h.meet; owns = e }) (λ r e. record { block = h.block; meet = h.meet; owns = e }) (two_single _ _ x y p h.owns)
     two_head x y (Named q) v ws p h = two_primitive (primitive q) x y q ws p h
@@ -321,7 +321,7 @@ two_if e M each s t (Some b) vs p h =
     (λ q r. record { under = h.under; sorts = h.sorts; number = h.number; begins = h.begins; satisfies = r })
     (two_satisfy M each (interpreted e.claims e.fixpoints) s t b.assertion h.under p h.satisfies)
 
-two_means : (e : Environment) (n : ℕ) (s t : Dyadic) (b : BodyName) (vs : Values) (p : Part) → MeansAt e n (sum s t) b vs p → Two (MeansAt e n s b vs) (MeansAt e n t b vs) p
+pub two_means : (e : Environment) (n : ℕ) (s t : Dyadic) (b : BodyName) (vs : Values) (p : Part) → MeansAt e n (sum s t) b vs p → Two (MeansAt e n s b vs) (MeansAt e n t b vs) p
 two_means e zero s t b vs p h = absurd h
 two_means e (suc n) s t b vs p h = two_if e (MeansAt e n) (two_means e n) s t (e.bodies b) vs p h
 

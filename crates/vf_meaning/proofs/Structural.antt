@@ -6,9 +6,9 @@ use Rattle.std.proofs.lemmas.Bool.{cases_Bool}
 use Rattle.vf_tree.specs.Core.{Identity}
 use Rattle.vf_model.specs.Values.{Value, Values, none, more, number_of, same_identity}
 use Rattle.vf_model.specs.Values as values
-use Rattle.vf_meaning.specs.Ghost.{Name, same_name, GhostExpression, GhostExpressions, no_expressions, and_expression, Variable, Number, Truth, Null, Function, Construct, Apply, PredicateValue, Claims, Negate, Arithmetic, PointerSum, Compare, Not, And, Or, Choose, CaseTree, FixpointBody, Returns, Switches, FixpointTree}
+use Rattle.vf_meaning.specs.Ghost.{Name, same_name, GhostExpression, GhostExpressions, no_expressions, and_expression, Variable, Number, Truth, Fraction, Null, Function, Construct, Apply, PredicateValue, Claims, Negate, Arithmetic, PointerSum, Share, Compare, Not, And, Or, Choose, CaseTree, FixpointBody, Returns, Switches, FixpointTree}
 use Rattle.vf_meaning.specs.Valuations.{Valuation, no_value, value_at, size, sizes, is_true, further, bound, all_bound, of_arguments}
-use Rattle.vf_meaning.specs.GhostValues.{Interpretation, computed, compared, claimed, value_of, values_of, by_case, by_body, with_fixpoint, unfolded, unfoldings, interpreted}
+use Rattle.vf_meaning.specs.GhostValues.{Interpretation, computed, compared, shared, claimed, value_of, values_of, by_case, by_body, with_fixpoint, unfolded, unfoldings, interpreted}
 use Rattle.vf_meaning.proofs.Values.{tells_names}
 use Rattle.vf_meaning.specs.Structural.{argument_at, IsOneOf, UsesSmaller, AllUseSmaller, CasesUseSmaller, BodyUsesSmaller, IsStructural, FixpointsMeetEquations}
 
@@ -47,6 +47,7 @@ module _ (i : Interpretation) (f : Identity) (F G : Values → Value) (k : ℕ) 
     value_same (Variable y) h = refl
     value_same (Number z) h = refl
     value_same (Truth b) h = refl
+    value_same (Fraction d) h = refl
     value_same Null h = refl
     value_same (Function g) h = refl
     value_same (Construct c es) h = ap (λ r. values.Constructed c r) (values_same es h)
@@ -56,6 +57,7 @@ module _ (i : Interpretation) (f : Identity) (F G : Values → Value) (k : ℕ) 
     value_same (Negate e) h = ap (λ r. values.Number (neg_ℤ (number_of r))) (value_same e h)
     value_same (Arithmetic op a b) h = ap₂ (λ r s. values.Number (computed op (number_of r) (number_of s))) (value_same a h.0) (value_same b h.1)
     value_same (PointerSum a b) h = ap₂ (λ r s. further r (number_of s)) (value_same a h.0) (value_same b h.1)
+    value_same (Share a b) h = ap₂ shared (value_same a h.0) (value_same b h.1)
     value_same (Compare op a b) h = ap₂ (λ r s. values.Truth (compared op r s)) (value_same a h.0) (value_same b h.1)
     value_same (Not e) h = ap (λ r. values.Truth (not (is_true r))) (value_same e h)
     value_same (And a b) h = ap₂ (λ r s. values.Truth (is_true r && is_true s)) (value_same a h.0) (value_same b h.1)

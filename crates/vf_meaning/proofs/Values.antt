@@ -7,10 +7,10 @@ use Rattle.std.proofs.lemmas.Bool.Decides.{Decides-int_eq}
 use Rattle.vf_tree.specs.Core.{Identity, Divide, Remainder}
 use Rattle.vf_model.specs.Values.{Dyadic, Whole, Odd, Value, Values, none, more, number_of, same_truth}
 use Rattle.vf_model.specs.Values as values
-use Rattle.vf_meaning.specs.Ghost.{Name, Numbered, Result, This, CurrentThread, same_name, GhostExpression, GhostExpressions, no_expressions, and_expression, Variable, Number, Truth, Null, Function, Construct, Apply, PredicateValue, Claims, Negate, Arithmetic, PointerSum, Compare, Not, And, Or, Choose}
+use Rattle.vf_meaning.specs.Ghost.{Name, Numbered, Result, This, CurrentThread, same_name, GhostExpression, GhostExpressions, no_expressions, and_expression, Variable, Number, Truth, Fraction, Null, Function, Construct, Apply, PredicateValue, Claims, Negate, Arithmetic, PointerSum, Share, Compare, Not, And, Or, Choose}
 use Rattle.vf_meaning.specs.Valuations.{Valuation, is_same, are_same, same_fraction, is_true, further}
 use Rattle.vf_meaning.specs.Names.{Uses, UsesAny}
-use Rattle.vf_meaning.specs.GhostValues.{Interpretation, value_of, values_of, computed, compared, claimed}
+use Rattle.vf_meaning.specs.GhostValues.{Interpretation, value_of, values_of, computed, compared, shared, claimed}
 use Rattle.vf_meaning.specs.ValueLaws.{TellsClaims, TellsValues, TellsNames, ValuesAgree, DividesByNought}
 
 truth_told : (a b : Bool) → same_truth a b ≡ true → a ≡ b
@@ -89,6 +89,7 @@ module _ (i : Interpretation) (v w : Valuation) where
     value_agrees (Variable y) h = h y refl
     value_agrees (Number z) h = refl
     value_agrees (Truth b) h = refl
+    value_agrees (Fraction d) h = refl
     value_agrees Null h = refl
     value_agrees (Function g) h = refl
     value_agrees (Construct c es) h = ap (λ r. values.Constructed c r) (values_agree es h)
@@ -98,6 +99,7 @@ module _ (i : Interpretation) (v w : Valuation) where
     value_agrees (Negate e) h = ap (λ r. value_of i (λ x. r) (Negate (Variable Result))) (value_agrees e h)
     value_agrees (Arithmetic op a b) h = ap₂ (λ r s. values.Number (computed op (number_of r) (number_of s))) (value_agrees a (λ x u. h x (inl u))) (value_agrees b (λ x u. h x (inr u)))
     value_agrees (PointerSum a b) h = ap₂ (λ r s. further r (number_of s)) (value_agrees a (λ x u. h x (inl u))) (value_agrees b (λ x u. h x (inr u)))
+    value_agrees (Share a b) h = ap₂ shared (value_agrees a (λ x u. h x (inl u))) (value_agrees b (λ x u. h x (inr u)))
     value_agrees (Compare op a b) h = ap₂ (λ r s. values.Truth (compared op r s)) (value_agrees a (λ x u. h x (inl u))) (value_agrees b (λ x u. h x (inr u)))
     value_agrees (Not e) h = ap (λ r. values.Truth (not (is_true r))) (value_agrees e h)
     value_agrees (And a b) h = ap₂ (λ r s. values.Truth (is_true r && is_true s)) (value_agrees a (λ x u. h x (inl u))) (value_agrees b (λ x u. h x (inr u)))

@@ -33,6 +33,7 @@ mutual
     Cell : ShareTree → GhostExpression → Field → PatternTree → Assertion
     Chunk : ShareTree → Head → List PatternTree → Assertion
 
+  -- the branches of a switch, each a constructor, the names of its arguments, and an assertion
   pub data Branches : Type 0 where
     no_branches : Branches
     branch : Identity → List Name → Assertion → Branches → Branches

@@ -62,6 +62,7 @@ start_of b = values.Pointer b (pos 0)
 pub data Primitive : Type 0 where
   Mutexes HeldMutexes Handles IntBlocks IntCells Others : Primitive
 
+-- the one of them that a predicate is, by its identity
 abbrev pub primitive : Identity → Primitive
 primitive p =
     cond (same_identity p (codes "<threading.h>#mutex")) Mutexes

@@ -1,6 +1,7 @@
 -- Ghost expressions as pure data, with their sorts and names.
 use Rattle.std.specs.Prelude.{ℕ, ℤ, Bool, true, false, List, [], ◌∷◌, ◌==◌}
 use Rattle.vf_tree.specs.Core.{Identity, ArithmeticOperator, Comparison}
+use Rattle.vf_model.specs.Values.{Dyadic}
 
 -- The sorts of ghost values: whole numbers, truth values, pointers of every type, positive fractions, any sort, a datatype, and predicates over arguments of some sorts
 mutual
@@ -9,6 +10,7 @@ mutual
     Datatype : Identity → Sort
     Predicates : Sorts → Sort
 
+  -- sorts in a row
   pub data Sorts : Type 0 where
     none : Sorts
     more : Sort → Sorts → Sorts
@@ -31,12 +33,13 @@ same_name This This = true
 same_name CurrentThread CurrentThread = true
 same_name _ _ = false
 
--- Construct is a constructor's term, Apply a fixpoint at arguments, PredicateValue a predicate, or a constructor of predicates at its first arguments; Claims T e asks whether e is a function whose declaration claims the function type T
+-- Fraction is a dyadic fraction, and Share the product of two fractions. Construct is a constructor's term, Apply a fixpoint at arguments, PredicateValue a predicate, or a constructor of predicates at its first arguments; Claims T e asks whether e is a function whose declaration claims the function type T
 mutual
   pub data GhostExpression : Type 0 where
     Variable : Name → GhostExpression
     Number : ℤ → GhostExpression
     Truth : Bool → GhostExpression
+    Fraction : Dyadic → GhostExpression
     Null : GhostExpression
     Function : Identity → GhostExpression
     Construct : Identity → GhostExpressions → GhostExpression
@@ -46,11 +49,13 @@ mutual
     Negate : GhostExpression → GhostExpression
     Arithmetic : ArithmeticOperator → GhostExpression → GhostExpression → GhostExpression
     PointerSum : GhostExpression → GhostExpression → GhostExpression
+    Share : GhostExpression → GhostExpression → GhostExpression
     Compare : Comparison → GhostExpression → GhostExpression → GhostExpression
     Not : GhostExpression → GhostExpression
     And Or : GhostExpression → GhostExpression → GhostExpression
     Choose : GhostExpression → GhostExpression → GhostExpression → GhostExpression
 
+  -- expressions in a row, as arguments stand
   pub data GhostExpressions : Type 0 where
     no_expressions : GhostExpressions
     and_expression : GhostExpression → GhostExpressions → GhostExpressions

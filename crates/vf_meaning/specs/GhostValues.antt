@@ -5,7 +5,8 @@ use Rattle.vf_tree.specs.Core.{Identity, ArithmeticOperator, Add, Subtract, Mult
 use Rattle.vf_model.specs.Values.{Value, Values, none, more, number_of, same_identity}
 use Rattle.vf_model.specs.Values as values
 use Rattle.vf_model.specs.Integers.{arithmetic}
-use Rattle.vf_meaning.specs.Ghost.{GhostExpression, GhostExpressions, no_expressions, and_expression, Variable, Number, Truth, Null, Function, Construct, Apply, PredicateValue, Claims, Negate, Arithmetic, PointerSum, Compare, Not, And, Or, Choose, CaseTree, FixpointTree, FixpointBody, Returns, Switches}
+use Rattle.vf_meaning.specs.Fractions.{product}
+use Rattle.vf_meaning.specs.Ghost.{GhostExpression, GhostExpressions, no_expressions, and_expression, Variable, Number, Truth, Fraction, Null, Function, Construct, Apply, PredicateValue, Claims, Negate, Arithmetic, PointerSum, Share, Compare, Not, And, Or, Choose, CaseTree, FixpointTree, FixpointBody, Returns, Switches}
 use Rattle.vf_meaning.specs.Valuations.{Valuation, no_value, value_at, size, is_same, is_true, further, all_bound, of_arguments}
 
 -- what the declarations give to expressions: which function's declaration claims which function type, and the value of each fixpoint at arguments
@@ -30,6 +31,11 @@ compared LessEqual v w = int_le (number_of v) (number_of w)
 compared Greater v w = int_lt (number_of w) (number_of v)
 compared GreaterEqual v w = int_le (number_of w) (number_of v)
 
+-- the product of two fractions; what is no fraction has none
+abbrev pub shared : Value → Value → Value
+shared (values.Fraction c) (values.Fraction d) = values.Fraction (product c d)
+shared _ _ = no_value
+
 -- whether a value is a function whose declaration claims the function type
 abbrev pub claimed : Interpretation → Identity → Value → Bool
 claimed i t (values.Function g) = i.claims g t
@@ -41,6 +47,7 @@ abbrev mutual
   value_of i v (Variable x) = v x
   value_of i v (Number z) = values.Number z
   value_of i v (Truth b) = values.Truth b
+  value_of i v (Fraction d) = values.Fraction d
   value_of i v Null = values.Null
   value_of i v (Function g) = values.Function g
   value_of i v (Construct c es) = values.Constructed c (values_of i v es)
@@ -50,6 +57,7 @@ abbrev mutual
   value_of i v (Negate e) = values.Number (neg_ℤ (number_of (value_of i v e)))
   value_of i v (Arithmetic op a b) = values.Number (computed op (number_of (value_of i v a)) (number_of (value_of i v b)))
   value_of i v (PointerSum p n) = further (value_of i v p) (number_of (value_of i v n))
+  value_of i v (Share a b) = shared (value_of i v a) (value_of i v b)
   value_of i v (Compare op a b) = values.Truth (compared op (value_of i v a) (value_of i v b))
   value_of i v (Not e) = values.Truth (not (is_true (value_of i v e)))
   value_of i v (And a b) = values.Truth (is_true (value_of i v a) && is_true (value_of i v b))

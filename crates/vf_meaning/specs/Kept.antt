@@ -30,6 +30,7 @@ abbrev pub depth_in : Option (List Frame) → ℕ
 depth_in None = 0
 depth_in (Some frames) = length frames
 
+-- how many calls the thread of that number is in
 abbrev pub depth : State → ℕ → ℕ
 depth s t = depth_in (slice_get s.threads t)
 

@@ -16,4 +16,7 @@ pub mod Satisfaction
 pub mod Environments
 pub mod SatisfactionLaws
 pub mod ShareOuts
+pub mod ShareOutLaws
 pub mod Kept
+pub mod MemoryInstances
+pub mod KeptInstances

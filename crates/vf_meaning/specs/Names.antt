@@ -1,6 +1,6 @@
 -- Which names stand in ghost expressions and in assertions.
 use Rattle.std.specs.Prelude.{◌≡◌, ◌⊎◌, List, [], ◌∷◌, Contains}
-use Rattle.vf_meaning.specs.Ghost.{Name, GhostExpression, GhostExpressions, no_expressions, and_expression, Variable, Number, Truth, Null, Function, Construct, Apply, PredicateValue, Claims, Negate, Arithmetic, PointerSum, Compare, Not, And, Or, Choose}
+use Rattle.vf_meaning.specs.Ghost.{Name, GhostExpression, GhostExpressions, no_expressions, and_expression, Variable, Number, Truth, Fraction, Null, Function, Construct, Apply, PredicateValue, Claims, Negate, Arithmetic, PointerSum, Share, Compare, Not, And, Or, Choose}
 use Rattle.vf_meaning.specs.Assertions.{ShareTree, Times, Taken, PatternTree, Is, Names, Wild, Head, BlockOf, Named, Family, Applied, Assertion, Pure, Empty, Both, Switch, Cell, Chunk, Branches, no_branches, branch}
 use Rattle.vf_meaning.specs.Assertions as assertions
 
@@ -10,6 +10,7 @@ abbrev mutual
   Uses (Variable y) x = y ≡ x
   Uses (Number z) x = ⊥
   Uses (Truth b) x = ⊥
+  Uses (Fraction d) x = ⊥
   Uses Null x = ⊥
   Uses (Function g) x = ⊥
   Uses (Construct c es) x = UsesAny es x
@@ -19,12 +20,14 @@ abbrev mutual
   Uses (Negate e) x = Uses e x
   Uses (Arithmetic op a b) x = Uses a x ⊎ Uses b x
   Uses (PointerSum a b) x = Uses a x ⊎ Uses b x
+  Uses (Share a b) x = Uses a x ⊎ Uses b x
   Uses (Compare op a b) x = Uses a x ⊎ Uses b x
   Uses (Not e) x = Uses e x
   Uses (And a b) x = Uses a x ⊎ Uses b x
   Uses (Or a b) x = Uses a x ⊎ Uses b x
   Uses (Choose c a b) x = Uses c x ⊎ (Uses a x ⊎ Uses b x)
 
+  -- a name stands in one of several expressions
   pub UsesAny : GhostExpressions → Name → Type 0
   UsesAny no_expressions x = ⊥
   UsesAny (and_expression e es) x = Uses e x ⊎ UsesAny es x
@@ -63,6 +66,7 @@ abbrev mutual
   UsesIn (Cell share e f p) x = UsesShare share x ⊎ (Uses e x ⊎ UsesPattern p x)
   UsesIn (Chunk share head ps) x = UsesShare share x ⊎ (UsesHead head x ⊎ UsesPatterns ps x)
 
+  -- a name stands in one of the branches
   pub UsesBranch : Branches → Name → Type 0
   UsesBranch no_branches x = ⊥
   UsesBranch (branch c ys a rest) x = UsesIn a x ⊎ UsesBranch rest x

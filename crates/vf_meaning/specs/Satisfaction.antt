@@ -33,6 +33,7 @@ module _ (M : Dyadic → BodyName → Values → Part → Type 0) where
   SatisfiesPrimitive IntCells x q ws p = IsInts x ws p
   SatisfiesPrimitive Others x q ws p = SatisfiesBody x (Plain q) ws p
 
+  -- a predicate by its identity, at arguments as asked
   abbrev pub SatisfiesNamed : Dyadic → Identity → List Wanted → Part → Type 0
   SatisfiesNamed x q ws p = SatisfiesPrimitive (primitive q) x q ws p
 

@@ -1,14 +1,15 @@
 -- Laws of satisfaction. Each is the contract of a public function with an empty body.
-use Rattle.std.specs.Prelude.{◌≡◌, ℕ, suc, ◌≤◌, ◌↔◌}
+use Rattle.std.specs.Prelude.{◌≡◌, ℕ, suc, ◌≤◌, ◌↔◌, List, [], ◌∷◌}
 use Rattle.vf_model.specs.Values.{Dyadic, Values}
-use Rattle.vf_tree.specs.Core.{Field}
+use Rattle.vf_tree.specs.Core.{Identity, Field}
 use Rattle.vf_meaning.specs.Fractions.{sum, half, IsPositive}
 use Rattle.vf_meaning.specs.Ghost.{Name, GhostExpression}
 use Rattle.vf_meaning.specs.Valuations.{Valuation}
 use Rattle.vf_meaning.specs.Names.{UsesIn}
-use Rattle.vf_meaning.specs.Assertions.{ShareTree, PatternTree, Cell, Assertion, BodyName, Environment}
+use Rattle.vf_meaning.specs.Assertions.{ShareTree, PatternTree, Is, Head, BlockOf, Named, Family, Applied, Cell, Chunk, Assertion, BodyName, Environment}
 use Rattle.vf_meaning.specs.Environments.{Extends}
 use Rattle.vf_meaning.specs.Parts.{Part, IsConsistent, IsSum}
+use Rattle.vf_meaning.specs.Chunks.{Primitive, Mutexes, HeldMutexes, Handles, IntBlocks, IntCells, Others, primitive}
 use Rattle.vf_meaning.specs.Satisfaction.{SatisfiesIf, MeansAt, SatisfiesAt}
 
 -- what is satisfied at a depth is at each greater depth
@@ -59,3 +60,34 @@ CellsJoin =
     (e : Environment) (n : ℕ) (s t : Dyadic) (share : ShareTree) (x : GhostExpression) (f : Field) (w : PatternTree) (v : Valuation) (p q r : Part)
     → IsPositive s → IsPositive t → SatisfiesAt e n s (Cell share x f w) v p → SatisfiesAt e n t (Cell share x f w) v q → IsSum p q r
     → SatisfiesAt e n (sum s t) (Cell share x f w) v r
+
+-- the predicates of the prelude each chunk of which is one location
+abbrev pub IsOfOneLocation : Primitive → Type 0
+IsOfOneLocation Mutexes = Unit {0}
+IsOfOneLocation HeldMutexes = Unit {0}
+IsOfOneLocation Handles = Unit {0}
+IsOfOneLocation IntBlocks = Unit {0}
+IsOfOneLocation IntCells = ⊥
+IsOfOneLocation Others = ⊥
+
+-- a chunk with this head is one location: a struct's block, or a chunk of such a predicate
+abbrev pub HeadsOneLocation : Head → Type 0
+HeadsOneLocation (BlockOf g) = Unit {0}
+HeadsOneLocation (Named q) = IsOfOneLocation (primitive q)
+HeadsOneLocation (Family q x) = ⊥
+HeadsOneLocation (Applied x) = ⊥
+
+-- two shares of one block, mutex, held mutex or handle, whose sum is a part, are one share of it at the sum of their scales
+abbrev pub ChunksJoin : Type 0
+ChunksJoin =
+    (e : Environment) (n : ℕ) (s t : Dyadic) (share : ShareTree) (head : Head) (x : GhostExpression) (ws : List PatternTree) (v : Valuation) (p q r : Part)
+    → HeadsOneLocation head → IsPositive s → IsPositive t → SatisfiesAt e n s (Chunk share head (Is x ∷ ws)) v p → SatisfiesAt e n t (Chunk share head (Is x ∷ ws)) v q → IsSum p q r
+    → SatisfiesAt e n (sum s t) (Chunk share head (Is x ∷ ws)) v r
+
+-- and so of two shares of a row of int cells of one length
+abbrev pub RowsJoin : Type 0
+RowsJoin =
+    (e : Environment) (n : ℕ) (s t : Dyadic) (share : ShareTree) (ints : Identity) (x many : GhostExpression) (w : PatternTree) (v : Valuation) (p q r : Part)
+    → primitive ints ≡ IntCells → IsPositive s → IsPositive t → SatisfiesAt e n s (Chunk share (Named ints) (Is x ∷ Is many ∷ w ∷ [])) v p
+    → SatisfiesAt e n t (Chunk share (Named ints) (Is x ∷ Is many ∷ w ∷ [])) v q → IsSum p q r
+    → SatisfiesAt e n (sum s t) (Chunk share (Named ints) (Is x ∷ Is many ∷ w ∷ [])) v r

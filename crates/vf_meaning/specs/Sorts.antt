@@ -45,11 +45,13 @@ abbrev mutual
   HasSort e (values.Predicate p vs) s = (sorts : List Sort) × ParametersAre (e.predicates p) sorts × IsPredicateSort sorts (count vs) s × HaveFirst e vs sorts
   HasSort e (values.Fraction d) s = IsOrAny Fractions s × IsPositive d
 
+  -- values are of sorts, one by one
   pub HaveSorts : Environment → Values → List Sort → Type 0
   HaveSorts e none [] = Unit {0}
   HaveSorts e (more v vs) (s ∷ sorts) = HasSort e v s × HaveSorts e vs sorts
   HaveSorts e _ _ = ⊥
 
+  -- values are of the first of some sorts, one by one
   pub HaveFirst : Environment → Values → List Sort → Type 0
   HaveFirst e none sorts = Unit {0}
   HaveFirst e (more v vs) (s ∷ sorts) = HasSort e v s × HaveFirst e vs sorts

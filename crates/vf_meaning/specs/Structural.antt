@@ -2,7 +2,7 @@
 use Rattle.std.specs.Prelude.{◌≡◌, ◌≢◌, ◌⊎◌, ℕ, zero, suc, Bool, IsTrue, List, [], ◌∷◌, Contains, Option, Some, None}
 use Rattle.vf_tree.specs.Core.{Identity}
 use Rattle.vf_model.specs.Values.{Values, same_identity}
-use Rattle.vf_meaning.specs.Ghost.{Name, GhostExpression, GhostExpressions, no_expressions, and_expression, Variable, Number, Truth, Null, Function, Construct, Apply, PredicateValue, Claims, Negate, Arithmetic, PointerSum, Compare, Not, And, Or, Choose, CaseTree, FixpointBody, Returns, Switches, FixpointTree}
+use Rattle.vf_meaning.specs.Ghost.{Name, GhostExpression, GhostExpressions, no_expressions, and_expression, Variable, Number, Truth, Fraction, Null, Function, Construct, Apply, PredicateValue, Claims, Negate, Arithmetic, PointerSum, Share, Compare, Not, And, Or, Choose, CaseTree, FixpointBody, Returns, Switches, FixpointTree}
 use Rattle.vf_meaning.specs.GhostValues.{by_body, interpreted}
 
 -- the argument at a place, counted from 0
@@ -22,6 +22,7 @@ abbrev mutual
   UsesSmaller f k xs (Variable y) = Unit {0}
   UsesSmaller f k xs (Number z) = Unit {0}
   UsesSmaller f k xs (Truth b) = Unit {0}
+  UsesSmaller f k xs (Fraction d) = Unit {0}
   UsesSmaller f k xs Null = Unit {0}
   UsesSmaller f k xs (Function g) = Unit {0}
   UsesSmaller f k xs (Construct c es) = AllUseSmaller f k xs es
@@ -31,12 +32,14 @@ abbrev mutual
   UsesSmaller f k xs (Negate e) = UsesSmaller f k xs e
   UsesSmaller f k xs (Arithmetic op a b) = UsesSmaller f k xs a × UsesSmaller f k xs b
   UsesSmaller f k xs (PointerSum a b) = UsesSmaller f k xs a × UsesSmaller f k xs b
+  UsesSmaller f k xs (Share a b) = UsesSmaller f k xs a × UsesSmaller f k xs b
   UsesSmaller f k xs (Compare op a b) = UsesSmaller f k xs a × UsesSmaller f k xs b
   UsesSmaller f k xs (Not e) = UsesSmaller f k xs e
   UsesSmaller f k xs (And a b) = UsesSmaller f k xs a × UsesSmaller f k xs b
   UsesSmaller f k xs (Or a b) = UsesSmaller f k xs a × UsesSmaller f k xs b
   UsesSmaller f k xs (Choose c a b) = UsesSmaller f k xs c × UsesSmaller f k xs a × UsesSmaller f k xs b
 
+  -- and so in each of several expressions
   pub AllUseSmaller : Identity → ℕ → List Name → GhostExpressions → Type 0
   AllUseSmaller f k xs no_expressions = Unit {0}
   AllUseSmaller f k xs (and_expression e es) = UsesSmaller f k xs e × AllUseSmaller f k xs es
@@ -67,6 +70,7 @@ abbrev mutual
   Applies (Variable y) g = ⊥
   Applies (Number z) g = ⊥
   Applies (Truth b) g = ⊥
+  Applies (Fraction d) g = ⊥
   Applies Null g = ⊥
   Applies (Function h) g = ⊥
   Applies (Construct c es) g = AnyApplies es g
@@ -76,12 +80,14 @@ abbrev mutual
   Applies (Negate e) g = Applies e g
   Applies (Arithmetic op a b) g = Applies a g ⊎ Applies b g
   Applies (PointerSum a b) g = Applies a g ⊎ Applies b g
+  Applies (Share a b) g = Applies a g ⊎ Applies b g
   Applies (Compare op a b) g = Applies a g ⊎ Applies b g
   Applies (Not e) g = Applies e g
   Applies (And a b) g = Applies a g ⊎ Applies b g
   Applies (Or a b) g = Applies a g ⊎ Applies b g
   Applies (Choose c a b) g = Applies c g ⊎ (Applies a g ⊎ Applies b g)
 
+  -- one of several expressions uses a fixpoint
   pub AnyApplies : GhostExpressions → Identity → Type 0
   AnyApplies no_expressions g = ⊥
   AnyApplies (and_expression e es) g = Applies e g ⊎ AnyApplies es g
@@ -99,3 +105,9 @@ AreOrdered (f ∷ fs) =
     × ((g : Identity) → BodyApplies f.body g → (g ≡ f.identity) ⊎ ((h : FixpointTree) × Contains fs h × (h.identity ≡ g)))
     × ((h : FixpointTree) → Contains fs h → h.identity ≢ f.identity)
     × AreOrdered fs
+
+-- the value of every fixpoint of a list in order is given by its equation, in which all fixpoints of the list have their values
+abbrev pub ListedFixpointsMeetEquations : Type 0
+ListedFixpointsMeetEquations =
+    (claims : Identity → Identity → Bool) (fs : List FixpointTree) (f : FixpointTree) (vs : Values) → AreOrdered fs → Contains fs f
+    → (interpreted claims fs).fixpoint f.identity vs ≡ by_body (interpreted claims fs) f.body vs

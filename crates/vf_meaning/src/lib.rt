@@ -7,16 +7,22 @@
 
 mod fixpoint_laws;
 mod fraction_laws;
+mod instances;
 mod part_laws;
 mod satisfaction_laws;
+mod share_out_laws;
 mod value_laws;
 
-pub use fixpoint_laws::fixpoints_meet_equations;
+pub use fixpoint_laws::{fixpoints_meet_equations, listed_fixpoints_meet_equations};
 pub use fraction_laws::{
     counts_in_units, form_is_one, halves_make_the_whole, nought_adds_nothing, order_is_by_sums,
     order_is_total, order_is_transitive, product_associates, product_commutes, product_distributes,
     reduces_to_its_value, stays_positive, sum_associates, sum_commutes, tells_order,
     whole_scales_nothing,
+};
+pub use instances::{
+    calls_are_kept, endless_means_nothing, free_mutex_is_meant, handle_is_meant,
+    held_mutex_is_meant, ints_are_meant, struct_is_meant,
 };
 pub use part_laws::{
     fitting_is_at_most_whole, fitting_is_consistent, nothing_fits_empty, nothing_is_neutral,
@@ -24,7 +30,8 @@ pub use part_laws::{
     tells_contents, tells_locations, whole_is_alone,
 };
 pub use satisfaction_laws::{
-    cells_join, declarations_grow, depth_falls, depth_grows, halves_split, names_agree,
-    satisfying_is_consistent, scales_split,
+    cells_join, chunks_join, declarations_grow, depth_falls, depth_grows, halves_split,
+    names_agree, rows_join, satisfying_is_consistent, scales_split,
 };
+pub use share_out_laws::{members_are_apart, share_outs_exclude_races, sums_close, sums_open};
 pub use value_laws::{divides_by_nought, tells_claims, tells_names, tells_values, values_agree};

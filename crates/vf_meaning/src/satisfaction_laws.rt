@@ -1,6 +1,6 @@
 //! Laws of satisfaction. Each function does nothing; its contract is the law.
 
-ghost use Rattle.vf_meaning.specs.SatisfactionLaws.{DepthGrows, DepthFalls, ScalesSplit, HalvesSplit, SatisfyingIsConsistent, NamesAgree, DeclarationsGrow, CellsJoin};
+ghost use Rattle.vf_meaning.specs.SatisfactionLaws.{DepthGrows, DepthFalls, ScalesSplit, HalvesSplit, SatisfyingIsConsistent, NamesAgree, DeclarationsGrow, CellsJoin, ChunksJoin, RowsJoin};
 
 /// What is satisfied at a depth is at each greater depth.
 pub fn depth_grows()
@@ -40,4 +40,14 @@ pub fn declarations_grow()
 /// Two shares of one cell are one share of it at the sum of their scales.
 pub fn cells_join()
     ensures { CellsJoin }
+{}
+
+/// Two shares of one block, mutex, held mutex or handle are one share of it at the sum of their scales.
+pub fn chunks_join()
+    ensures { ChunksJoin }
+{}
+
+/// Two shares of one row of int cells are one share of it at the sum of their scales.
+pub fn rows_join()
+    ensures { RowsJoin }
 {}

@@ -1,0 +1,12 @@
+pub mod Terms
+pub mod Stands
+pub mod Arguments
+pub mod Patterns
+pub mod Names
+pub mod Produces
+pub mod Takes
+pub mod Fits
+pub mod CaseNames
+pub mod Consumes
+pub mod Told
+pub mod Opening

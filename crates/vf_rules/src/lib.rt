@@ -1,0 +1,11 @@
+//! The declarative rules of symbolic execution: what a state stands for, and when a body is accepted.
+//!
+//! The definitions stand in `specs/`, over those of the machine and of assertions; the code here is
+//! public functions with an empty body, each of which has a law as its contract.
+#![tactic(auto)]
+
+mod laws;
+mod predicate_laws;
+
+pub use laws::{changes_keep, consuming_takes, joining_keeps, producing_adds};
+pub use predicate_laws::{closing_keeps, opening_keeps};
