@@ -1,0 +1,44 @@
+-- Laws of runs, and the safety of what is accepted. Each is the contract of a public function with an empty body.
+use Rattle.std.specs.Prelude.{◌≡◌, ◌≤◌, ℕ, suc, List, [], ◌∷◌, length, slice_get, Some, None, Ok}
+use Rattle.vf_tree.specs.Core.{ProgramTree}
+use Rattle.vf_tree.specs.Shown.{program_of}
+use Rattle.vf_tree.specs.declared.unit.Core.{Core}
+use Rattle.vf_model.specs.declared.words.Event.{Event}
+use Rattle.vf_model.specs.State.{State}
+use Rattle.vf_model.specs.Runs.{opening, after}
+use Rattle.vf_model.specs.Races.{Race}
+use Rattle.vf_meaning.specs.Assertions.{Environment}
+use Rattle.vf_meaning.specs.Environments.{Extends, IsLinked}
+use Rattle.vf_meaning.specs.Kept.{before, IsSafe, Kept}
+use Rattle.vf_term.specs.Journal.{Seen}
+use Rattle.vf_term.specs.Course.{Follows}
+use Rattle.vf_term.specs.Right.{AreRightFrom}
+use Rattle.vf_exec.specs.Main.{checks}
+use Rattle.vf_sound.specs.Environment.{environment_of}
+use Rattle.vf_sound.specs.Formed.{IsFormed}
+
+-- before its first event a list has come to the opening state, and each event leads from the state before it to the one before the next; behind the last nothing changes
+abbrev pub EventsFollow : Type 0
+EventsFollow =
+    (p : ProgramTree) (events : List Event)
+    → (before p events 0 ≡ opening p)
+    × ((k : ℕ) (event : Event) → slice_get events k ≡ Some event → before p events (suc k) ≡ after p (before p events k) event)
+    × ((k : ℕ) → slice_get events k ≡ None → before p events (suc k) ≡ before p events k)
+
+-- one thread alone has no race
+abbrev pub OneThreadHasNoRace : Type 0
+OneThreadHasNoRace = (p : ProgramTree) (s : State) → length s.threads ≤ 1 → Race p s → ⊥
+
+-- the environment of a unit is the linked one of that unit alone
+abbrev pub OneUnitLinks : Type 0
+OneUnitLinks = (core : Core) → IsLinked (environment_of core ∷ []) (environment_of core)
+
+-- A program is safe and keeps what it owes, whichever its events: no state that it comes to has a fault of any thread or a race, and its share-outs and contracts are kept
+abbrev pub IsAlwaysSafe : Environment → ProgramTree → Type 0
+IsAlwaysSafe e p = (events : List Event) → IsSafe p events × Kept e p events
+
+-- where the rules accept a core by right answers, its program is safe and keeps what it owes, whichever its events, in each environment that has all of the unit's
+abbrev pub AcceptedIsSafe : Type 0
+AcceptedIsSafe =
+    (core : Core) (e : Environment) (origin : ℕ) (s t : Seen) → IsFormed core → Extends (environment_of core) e
+    → origin ≤ length s.entries → Follows (checks core) s t (Ok tt) → AreRightFrom origin t → IsAlwaysSafe e (program_of core.plain)

@@ -1,0 +1,5 @@
+pub mod Allowed
+pub mod Environment
+pub mod Formed
+pub mod Laws
+pub mod Shares
