@@ -85,7 +85,7 @@ module _ (closing name : Place) (post : Pure) (path : List Literal) (v : Valuati
   runs_well locals (steps.Return e ∷ more) p = leaves_well locals e p
 
 -- the fact that a precondition adds, alone on its path
-only_fact : (l : Literal) (v : Valuation) → Holds l v → Meets (l ∷ []) v
+pub only_fact : (l : Literal) (v : Valuation) → Holds l v → Meets (l ∷ []) v
 only_fact l v h m (zero, low, is) = subst (λ x. Holds x v) is h
 only_fact l v h m (suc k, low, is) = absurd (omega arith)
 

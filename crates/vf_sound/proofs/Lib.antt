@@ -7,3 +7,4 @@ mod Bodies
 mod Steps
 mod Keeping
 pub mod Accepted
+mod Worked

@@ -6,7 +6,7 @@ use Rattle.vf_meaning.specs.Environments.{Extends, SomeUnit}
 use Rattle.vf_sound.specs.Environment.{environment_of}
 use Rattle.vf_sound.specs.Laws.{OneUnitLinks}
 
-extends_itself : (e : Environment) → Extends e e
+pub extends_itself : (e : Environment) → Extends e e
 extends_itself e = record {
   constructors = λ c k h. h;
   fixpoints = λ k h. h;

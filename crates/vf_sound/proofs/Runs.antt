@@ -1,5 +1,6 @@
 -- Runs, event by event, and races.
 use Rattle.std.proofs.Common.{◌≡◌, ℕ, zero, suc, ◌<◌, List, [], ◌∷◌, length, take, Option, Some, None, slice_get, refl, ap, arith}
+use Rattle.std.specs.Prelude.{IsTrue}
 use Rattle.std.specs.List.{fold}
 use Rattle.std.proofs.lemmas.Option.{slice_get_within}
 use Rattle.vf_tree.specs.Core.{ProgramTree}
@@ -10,7 +11,7 @@ use Rattle.vf_model.specs.Races.{next_touch, touch_in, touch_unended}
 use Rattle.vf_model.specs.Steps.{act_by, next_act}
 use Rattle.vf_model.specs.Runs.{opening, after}
 use Rattle.vf_meaning.specs.Kept.{before}
-use Rattle.vf_sound.specs.Laws.{EventsFollow, OneThreadHasNoRace}
+use Rattle.vf_sound.specs.Laws.{EventsFollow, TestsHoldThroughout, OneThreadHasNoRace}
 
 module _ (p : ProgramTree) where
   one_more : (s : State) (events : List Event) (k : ℕ) (event : Event) → slice_get events k ≡ Some event → fold (after p) s (take (suc k) events) ≡ after p (fold (after p) s (take k events)) event
@@ -40,6 +41,9 @@ holds_throughout p Holds first keeps events k = throughout (opening p) (take k e
     throughout : (s : State) (es : List Event) → Holds s → Holds (fold (after p) s es)
     throughout s [] h = h
     throughout s (e ∷ es) h = throughout (after p s e) es (keeps s e h)
+
+pub tests_hold_throughout : TestsHoldThroughout
+tests_hold_throughout p test first keeps events k = holds_throughout p (λ s. IsTrue (test s)) first keeps events k
 
 -- ---- races
 -- no touch is one

@@ -1,5 +1,5 @@
 -- Laws of runs, and the safety of what is accepted. Each is the contract of a public function with an empty body.
-use Rattle.std.specs.Prelude.{◌≡◌, ◌≤◌, ℕ, suc, List, [], ◌∷◌, length, slice_get, Some, None, Ok}
+use Rattle.std.specs.Prelude.{◌≡◌, ◌≤◌, ℕ, suc, List, [], ◌∷◌, length, slice_get, Some, None, Ok, Bool, IsTrue}
 use Rattle.vf_tree.specs.Core.{ProgramTree}
 use Rattle.vf_tree.specs.Shown.{program_of}
 use Rattle.vf_tree.specs.declared.unit.Core.{Core}
@@ -24,6 +24,12 @@ EventsFollow =
     → (before p events 0 ≡ opening p)
     × ((k : ℕ) (event : Event) → slice_get events k ≡ Some event → before p events (suc k) ≡ after p (before p events k) event)
     × ((k : ℕ) → slice_get events k ≡ None → before p events (suc k) ≡ before p events k)
+
+-- a test that the opening state passes, and that every event keeps, is passed by every state that a list of events comes to
+abbrev pub TestsHoldThroughout : Type 0
+TestsHoldThroughout =
+    (p : ProgramTree) (test : State → Bool) → IsTrue (test (opening p)) → ((s : State) (event : Event) → IsTrue (test s) → IsTrue (test (after p s event)))
+    → (events : List Event) (k : ℕ) → IsTrue (test (before p events k))
 
 -- one thread alone has no race
 abbrev pub OneThreadHasNoRace : Type 0

@@ -2,7 +2,7 @@
 //! contract is the law.
 
 ghost use Rattle.vf_sound.specs.Allowed.{RightAnswersAllow};
-ghost use Rattle.vf_sound.specs.Laws.{EventsFollow, OneThreadHasNoRace, OneUnitLinks};
+ghost use Rattle.vf_sound.specs.Laws.{EventsFollow, OneThreadHasNoRace, OneUnitLinks, TestsHoldThroughout};
 ghost use Rattle.vf_sound.specs.Shares.{NothingIsShared, QuietStepsKeep};
 
 /// Right answers allow what a course came to with them, so that proofs about a course need no
@@ -14,6 +14,11 @@ pub fn right_answers_allow<A>()
 /// Each event leads from the state before it to the one before the next.
 pub fn events_follow()
     ensures { EventsFollow }
+{}
+
+/// What the opening state is and every event keeps, every state is that a list of events comes to.
+pub fn tests_hold_throughout()
+    ensures { TestsHoldThroughout }
 {}
 
 /// A step that changes no memory, and by which no thread starts or ends, keeps a share-out.

@@ -4,11 +4,13 @@
 //! which has a law as its contract.
 #![tactic(auto)]
 
+mod examples;
 mod laws;
 mod safety;
 
+pub use examples::{broken_promise_is_seen, overflow_is_seen, seven_is_accepted};
 pub use laws::{
     events_follow, nothing_is_shared, one_thread_has_no_race, one_unit_links, quiet_steps_keep,
-    right_answers_allow,
+    right_answers_allow, tests_hold_throughout,
 };
 pub use safety::accepted_is_safe;
