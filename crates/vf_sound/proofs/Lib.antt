@@ -1,5 +1,6 @@
 pub mod Allowing
 pub mod Runs
+pub mod Endings
 pub mod Shares
 pub mod Linking
 mod Sums

@@ -1,11 +1,14 @@
 -- Laws of runs, and the safety of what is accepted. Each is the contract of a public function with an empty body.
 use Rattle.std.specs.Prelude.{◌≡◌, ◌≤◌, ℕ, suc, List, [], ◌∷◌, length, slice_get, Some, None, Ok, Bool, IsTrue}
+use Rattle.vf_base.specs.declared.place.Place.{Place}
 use Rattle.vf_tree.specs.Core.{ProgramTree}
 use Rattle.vf_tree.specs.Shown.{program_of}
 use Rattle.vf_tree.specs.declared.unit.Core.{Core}
 use Rattle.vf_model.specs.declared.words.Event.{Event}
+use Rattle.vf_model.specs.declared.words.FaultKind.{FaultKind}
+use Rattle.vf_model.specs.declared.words.Outcome.TheVariants as outcomes
 use Rattle.vf_model.specs.State.{State}
-use Rattle.vf_model.specs.Runs.{opening, after}
+use Rattle.vf_model.specs.Runs.{opening, after, reach, outcome_of}
 use Rattle.vf_model.specs.Races.{Race}
 use Rattle.vf_meaning.specs.Assertions.{Environment}
 use Rattle.vf_meaning.specs.Environments.{Extends, IsLinked}
@@ -34,6 +37,11 @@ TestsHoldThroughout =
 -- one thread alone has no race
 abbrev pub OneThreadHasNoRace : Type 0
 OneThreadHasNoRace = (p : ProgramTree) (s : State) → length s.threads ≤ 1 → Race p s → ⊥
+
+-- a list of events on which a program is safe does not come to stand at a fault, so that none is the outcome
+abbrev pub SafeRunsShowNoFault : Type 0
+SafeRunsShowNoFault =
+    (p : ProgramTree) (events : List Event) → IsSafe p events → (kind : FaultKind) (place : Place) → outcome_of p (reach p events) ≡ outcomes.Fault kind place → ⊥
 
 -- the environment of a unit is the linked one of that unit alone
 abbrev pub OneUnitLinks : Type 0

@@ -2,7 +2,7 @@
 //! contract is the law.
 
 ghost use Rattle.vf_sound.specs.Allowed.{RightAnswersAllow};
-ghost use Rattle.vf_sound.specs.Laws.{EventsFollow, OneThreadHasNoRace, OneUnitLinks, TestsHoldThroughout};
+ghost use Rattle.vf_sound.specs.Laws.{EventsFollow, OneThreadHasNoRace, OneUnitLinks, SafeRunsShowNoFault, TestsHoldThroughout};
 ghost use Rattle.vf_sound.specs.Shares.{NothingIsShared, QuietStepsKeep};
 
 /// Right answers allow what a course came to with them, so that proofs about a course need no
@@ -34,6 +34,11 @@ pub fn nothing_is_shared()
 /// One thread alone has no race (C11 5.1.2.4p25 speaks of two).
 pub fn one_thread_has_no_race()
     ensures { OneThreadHasNoRace }
+{}
+
+/// Where a list of events is safe, its outcome is no fault.
+pub fn safe_runs_show_no_fault()
+    ensures { SafeRunsShowNoFault }
 {}
 
 /// The environment of a unit is the linked one of that unit alone.
