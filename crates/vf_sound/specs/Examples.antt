@@ -1,5 +1,5 @@
 -- Three mains: one that is accepted, and two that are wrong.
-use Rattle.std.specs.Prelude.{ℕ, ℤ, pos, List, [], ◌∷◌, codes}
+use Rattle.std.specs.Prelude.{ℕ, ℤ, pos, List, [], ◌∷◌, Ok, codes}
 use Rattle.vf_base.specs.declared.place.Place.{Place}
 use Rattle.vf_tree.specs.Shown.{program_of}
 use Rattle.vf_tree.specs.declared.unit.Operator.TheVariants.{Add}
@@ -9,7 +9,6 @@ use Rattle.vf_tree.specs.declared.unit.Pure.{Pure}
 use Rattle.vf_tree.specs.declared.unit.Pure.TheVariants.{True, ResultIs}
 use Rattle.vf_tree.specs.declared.unit.Core.{Core}
 use Rattle.vf_model.specs.declared.words.Event.{Event}
-use Rattle.std.specs.Prelude.{Ok}
 use Rattle.vf_term.specs.Journal.{Seen, nothing_seen, begun}
 use Rattle.vf_term.specs.Course.{Follows}
 use Rattle.vf_term.specs.Right.{AreRightFrom}

@@ -1,5 +1,5 @@
 -- Share-outs of programs that own nothing, and of steps that change nothing that is owned.
-use Rattle.std.specs.Prelude.{◌≡◌, ℕ, length}
+use Rattle.std.specs.Prelude.{◌≡◌, ℕ, length, Some}
 use Rattle.std.specs.FinMap as map
 use Rattle.vf_tree.specs.Core.{ProgramTree}
 use Rattle.vf_model.specs.Memory as memory
@@ -9,7 +9,6 @@ use Rattle.vf_model.specs.Races.{next_touch, TouchesCell}
 use Rattle.vf_meaning.specs.Assertions.{Environment}
 use Rattle.vf_meaning.specs.Parts.{Location, nothing}
 use Rattle.vf_meaning.specs.ShareOuts.{ShareOut, Ended, location_in, OwnsFor, IsShareOut}
-use Rattle.std.specs.Prelude.{Some}
 
 -- nobody owns anything
 abbrev pub nothing_shared : ShareOut
