@@ -16,12 +16,12 @@ use Rattle.vf_tool.specs.Words.{IsRun}
 use Rattle.vf_tool.specs.Verdict.{Judged}
 use Rattle.vf_tool.specs.Run.{is_accepted}
 
--- The units have a linked environment, and on every list of events the linked program is safe, so that no state that it comes to has a fault of any thread or a race, and keeps what it owes in that environment
+-- The units have a linked environment. On every list of events the linked program is safe, so that no state that it comes to has a fault of any thread or a race, and keeps what it owes in each linked environment that the units have
 pub record IsSafeLinked (units : List Environment) (p : ProgramTree) : Type 0 where
   pub environment : Environment
   pub linked : IsLinked units environment
   pub safe : (events : List Event) → IsSafe p events
-  pub kept : (events : List Event) → Kept environment p events
+  pub kept : (e : Environment) → IsLinked units e → (events : List Event) → Kept e p events
 
 -- where the verdict is to accept, the file links by itself, and the plain reading of its text is safe
 abbrev pub WhereAccepted : Verdict → Type 0
