@@ -1,24 +1,19 @@
 -- What is answered, and what is told of it.
-use Rattle.std.proofs.Common.{◌≡◌, ◌⊎◌, inl, inr, ◌∙◌, refl, sym, ap, subst, ℕ, zero, ◌+◌, ◌<◌, ◌≤◌, List, length, take, Bool, Option, Some, None, IfSome, arith}
+use Rattle.std.proofs.Common.{◌≡◌, inl, inr, ◌∙◌, sym, ap, subst, ℕ, ◌+◌, ◌<◌, List, length, take, Bool, Some, None, IfSome, arith}
 use Rattle.std.proofs.lemmas.Bool.{cases_lt}
 use Rattle.std.proofs.lemmas.List.{length-map}
-use Rattle.std.specs.Prelude.{map}
-use Rattle.std.specs.Option.{IsSomeAnd}
 use Rattle.std.specs.FinMap.{get}
-use Rattle.vf_base.specs.Outside.{Contents, FileMap, Rose, IsFront, IsAbsent}
-use Rattle.vf_base.specs.declared.refusal.Refusal.{Refusal}
-use Rattle.vf_tree.specs.declared.unit.Core.{Core}
+use Rattle.vf_base.specs.Outside.{Contents, IsFront, IsAbsent}
 use Rattle.vf_model.specs.declared.words.Event.{Event}
 use Rattle.vf_term.specs.declared.journal.Journal.{Journal}
 use Rattle.vf_term.specs.Journal.{Seen, seen, nothing_seen, asked_of}
 use Rattle.vf_term.specs.Right.{AreRightFrom}
-use Rattle.vf_first.specs.FirstForm.{Spells}
 use Rattle.vf_tool.specs.declared.verdict.Verdict.{Verdict}
 use Rattle.vf_tool.specs.declared.verdict.Verdict.TheVariants.{Accepted, Refused}
-use Rattle.vf_tool.specs.Verdict.{Judged, IsUnread}
+use Rattle.vf_tool.specs.Verdict.{Judged}
 use Rattle.vf_tool.specs.Loaded.{HasSchedule, most_source}
 use Rattle.vf_tool.specs.Run.{Answers, IsAnswer, IsLacking, text_of, is_accepted}
-use Rattle.vf_tool.proofs.Loading.{Found, found, no_longer, whole}
+use Rattle.vf_tool.proofs.Loading.{found, no_longer, whole}
 
 -- a fresh journal has begun no unit, and has no entry
 pub fresh_units : (j : Journal) → seen j ≡ nothing_seen → length j.units ≡ 0

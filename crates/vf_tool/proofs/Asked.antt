@@ -1,5 +1,5 @@
 -- Paths and words.
-use Rattle.std.proofs.Common.{◌≡◌, ℕ, List, [], ◌∷◌, ◌++◌, Bool, true, ◌&&◌, IsTrue, codes, length, get_or, map, ap, sym, ◌∙◌, string_bytes, arith}
+use Rattle.std.proofs.Common.{◌≡◌, ℕ, List, [], ◌∷◌, ◌++◌, IsTrue, codes, length, get_or, map, ap, sym, ◌∙◌, string_bytes, arith}
 use Rattle.std.specs.declared.string.String.{String as OwnText}
 use Rattle.std.specs.declared.alloc.Global.{Global}
 use Rattle.std.specs.List.{All}

@@ -3,3 +3,5 @@ pub mod Asked
 pub mod Judgements
 pub mod Loading
 pub mod Telling
+pub mod Formed
+pub mod Safety

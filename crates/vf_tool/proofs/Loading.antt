@@ -1,12 +1,12 @@
 -- What the bytes that were read of a file say of the whole file.
-use Rattle.std.proofs.Common.{◌≡◌, ℕ, ◌+◌, ◌≤◌, ◌<◌, min, List, length, take, Option, Some, None, IfSome, ap, sym, subst, ◌∙◌, refl, arith}
+use Rattle.std.proofs.Common.{◌≡◌, ℕ, ◌+◌, ◌≤◌, ◌<◌, List, length, take, Option, Some, None, IfSome, ap, sym, ◌∙◌, refl, arith}
 use Rattle.std.specs.Option.{IsSomeAnd}
 use Rattle.std.specs.FinMap.{get}
 use Rattle.std.proofs.lemmas.List.{length-take, take_all}
-use Rattle.vf_base.specs.Outside.{Contents, FileMap, IsFront}
+use Rattle.vf_base.specs.Outside.{Contents, IsFront}
 use Rattle.vf_model.specs.declared.words.Event.{Event}
 use Rattle.vf_schedule.specs.Schedule.{IsScheduleText}
-use Rattle.vf_tool.specs.Loaded.{IsSchedule, HasSchedule, HasNoSchedule, most_schedule}
+use Rattle.vf_tool.specs.Loaded.{HasSchedule, HasNoSchedule, most_schedule}
 
 -- a value that is there, with its fact
 pub record Found {A : Type 0} (r : Option A) (P : A → Type 0) : Type 0 where

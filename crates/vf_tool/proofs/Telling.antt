@@ -1,12 +1,12 @@
 -- What the top call tells: one run in the words, one verdict by right answers.
-use Rattle.std.proofs.Common.{◌≡◌, ◌⊎◌, inl, inr, ◌∙◌, refl, sym, ap, subst, ℕ, List, [], ◌∷◌, length, Bool, true, false, Option, Some, None, IfSome, Result, Ok, Err, arith}
+use Rattle.std.proofs.Common.{◌≡◌, inl, inr, ◌∙◌, refl, sym, ap, subst, ℕ, List, [], ◌∷◌, Bool, Some, IfSome, Ok, Err, arith}
 use Rattle.std.specs.Prelude.{codes}
 use Rattle.std.specs.FinMap.{get}
 use Rattle.vf_base.specs.Outside.{Contents, FileMap}
 use Rattle.vf_base.specs.declared.refusal.Refusal.{Refusal}
 use Rattle.vf_tree.specs.declared.unit.Core.{Core}
 use Rattle.vf_model.specs.declared.words.Event.{Event}
-use Rattle.vf_term.specs.Course.{Course, Follows}
+use Rattle.vf_term.specs.Course.{Follows}
 use Rattle.vf_term.specs.Journal.{Seen, nothing_seen, begun}
 use Rattle.vf_term.specs.Right.{AreRightFrom}
 use Rattle.vf_term.proofs.Determined.{right_determined}
@@ -14,7 +14,6 @@ use Rattle.vf_first.proofs.Units.{same_core}
 use Rattle.vf_exec.specs.Main.{checks}
 use Rattle.vf_tool.specs.declared.verdict.Verdict.{Verdict}
 use Rattle.vf_tool.specs.declared.verdict.Verdict.TheVariants.{Accepted, Refused}
-use Rattle.vf_tool.specs.declared.status.Status.TheVariants as statuses
 use Rattle.vf_tool.specs.declared.status.Stop.{Stop}
 use Rattle.vf_tool.specs.declared.status.Stop.TheVariants as stops
 use Rattle.vf_tool.specs.Status.{status_of_stop}

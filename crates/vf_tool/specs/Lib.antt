@@ -1,6 +1,7 @@
 pub mod Lines
 pub mod Loaded
 pub mod Run
+pub mod Safe
 pub mod Status
 pub mod Verdict
 pub mod Words

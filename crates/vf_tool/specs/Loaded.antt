@@ -1,5 +1,5 @@
 -- What the files that a run names have.
-use Rattle.std.specs.Prelude.{◌≡◌, ℕ, ◌≤◌, List, length, Option, Some, None, IfSome}
+use Rattle.std.specs.Prelude.{◌≡◌, ℕ, ◌≤◌, List, length, Some}
 use Rattle.std.specs.FinMap.{get}
 use Rattle.vf_base.specs.Outside.{FileMap}
 use Rattle.vf_model.specs.declared.words.Event.{Event}

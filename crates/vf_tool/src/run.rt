@@ -7,6 +7,7 @@ ghost use Rattle.vf_term.specs.Journal.{seen, nothing_seen};
 ghost use Rattle.vf_term.specs.Right.{AreRightFrom};
 ghost use Rattle.vf_tool.specs.Loaded.{HasSchedule, HasNoSchedule};
 ghost use Rattle.vf_tool.specs.Run.{Prints, BeginsToPrint, OnVerdict, OnStop, OfRun, IsLacking, Decides};
+ghost use Rattle.vf_tool.specs.Safe.{IsSafeRun};
 ghost use Rattle.vf_tool.specs.Status.{CanCome};
 ghost use Rattle.vf_tool.specs.Words.{IsRun};
 
@@ -35,6 +36,10 @@ pub fn run_words<F: Files, S: Sink>(
 
     // Every answer in the journal is right.
     ensures right { AreRightFrom 0 (seen journal.new) }
+
+    // Over files that are told: where the status is that of a verdict, what is accepted and linked has no
+    // fault of any thread and no race, whichever the events, and keeps its share-outs and contracts.
+    ensures safe { (m : FileMap) → F.contents files.old ≡ Some m → OnVerdict result (IsSafeRun m (map (λ w. string_bytes w) words.now) (seen journal.new)) }
 
     // Else nothing is printed, but where the sink itself gave up: then a front of that text.
     ensures printed { (m : FileMap) → F.contents files.old ≡ Some m → OnStop result (BeginsToPrint m (map (λ w. string_bytes w) words.now) (seen journal.new) (S.taken out.old) (S.taken out.new)) (S.taken out.new ≡ S.taken out.old) }

@@ -1,7 +1,8 @@
 -- The words are those of a run, and what comes of it is decided.
-use Rattle.std.proofs.Common.{◌≡◌, refl, sym, ap, ◌∙◌, subst, Bool, true, false, Err}
+use Rattle.std.proofs.Common.{ap, subst, Bool, true, false, Err}
 use Rattle.vf_tool.specs.Run.{Decides, status_of}
 use Rattle.vf_tool.proofs.Telling.{one_schedule, one_file, decides, decides_stop}
+use Rattle.vf_tool.proofs.Safety.{safe_run}
 use Rattle.vf_tool.proofs.run.run_words.Goals as goal
 
 pub returns-in-None-clause-complete : goal.returns-in-None-clause-complete
@@ -39,3 +40,11 @@ pub returns-clause-complete : goal.returns-clause-complete
 returns-clause-complete g c = λ m told s f run read missing write events has.
     subst (λ (b : Bool). Decides m f (status_of b)) c.if-answer.false
     (decides _ m _ _ s f _ c.in-Ok.answer.accepted c.in-Ok.answer.text told (one_file _ _ _ s f c.in-Some.ensures.found run) c.run_answer.ensures.right c.in-Ok.ensures.answered)
+
+pub returns-then-answer-clause-safe : goal.returns-then-answer-clause-safe
+returns-then-answer-clause-safe g c = λ m is.
+    safe_run _ m _ _ _ _ c.in-Ok.answer.accepted true c.in-Ok.answer.text is c.in-Some.ensures.found c.run_answer.ensures.right c.if-answer.true c.in-Ok.ensures.answered
+
+pub returns-clause-safe : goal.returns-clause-safe
+returns-clause-safe g c = λ m is.
+    safe_run _ m _ _ _ _ c.in-Ok.answer.accepted false c.in-Ok.answer.text is c.in-Some.ensures.found c.run_answer.ensures.right c.if-answer.false c.in-Ok.ensures.answered

@@ -1,6 +1,5 @@
 -- Three words that are a run.
-use Rattle.std.proofs.Common.{◌≡◌, ◌∷◌, [], List, ℕ, map, ap, ◌∙◌, sym, subst, string_bytes, arith, refl}
-use Rattle.vf_tool.specs.Words.{IsRun}
+use Rattle.std.proofs.Common.{◌∙◌, sym, arith, refl}
 use Rattle.vf_tool.proofs.Asked.{three, run_of_words}
 use Rattle.vf_tool.proofs.words.run_words_of.Goals as goal
 

@@ -1,0 +1,12 @@
+-- What the rules accept by right answers is safe.
+use Rattle.vf_sound.specs.Laws.{AcceptedIsSafe}
+use Rattle.vf_exec.specs.Main.{checks}
+use Rattle.std.proofs.Common.{Ok}
+use Rattle.vf_sound.proofs.Allowing.{right_answers_allow}
+use Rattle.vf_sound.proofs.Bodies.{main_good}
+use Rattle.vf_sound.proofs.Keeping.{is_safe, is_kept}
+
+pub accepted_is_safe : AcceptedIsSafe
+accepted_is_safe core e origin s t formed extends low follows right events =
+    let good = main_good core formed.main formed.is_main (right_answers_allow (checks core) origin s t (Ok tt) low follows right) in
+    (is_safe core formed.main formed.is_main formed.in_order good events, is_kept core formed.main formed.is_main formed.in_order good e events extends)

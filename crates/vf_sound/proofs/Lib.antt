@@ -1,0 +1,11 @@
+pub mod Allowing
+pub mod Runs
+pub mod Endings
+pub mod Shares
+pub mod Linking
+mod Sums
+mod Bodies
+mod Steps
+mod Keeping
+pub mod Accepted
+mod Worked

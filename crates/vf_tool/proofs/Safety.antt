@@ -1,0 +1,53 @@
+-- What is accepted is safe.
+use Rattle.std.proofs.Common.{◌≡◌, ◌∙◌, refl, sym, subst, ℕ, List, [], ◌∷◌, Bool, Some, IfSome, arith}
+use Rattle.vf_base.specs.Outside.{Contents, FileMap}
+use Rattle.vf_tree.specs.Shown.{program_of}
+use Rattle.vf_tree.specs.declared.unit.Core.{Core}
+use Rattle.vf_term.specs.Journal.{Seen, nothing_seen, begun}
+use Rattle.vf_term.specs.Right.{AreRightFrom}
+use Rattle.vf_meaning.specs.Assertions.{Environment}
+use Rattle.vf_meaning.specs.Environments.{Extends}
+use Rattle.vf_sound.specs.Environment.{environment_of}
+use Rattle.vf_sound.specs.Laws.{IsAlwaysSafe}
+use Rattle.vf_sound.proofs.Accepted.{accepted_is_safe}
+use Rattle.vf_sound.proofs.Linking.{extends_itself, one_unit_links}
+use Rattle.vf_tool.specs.declared.verdict.Verdict.{Verdict}
+use Rattle.vf_tool.specs.declared.verdict.Verdict.TheVariants.{Accepted, Refused}
+use Rattle.vf_tool.specs.Words.{IsRun}
+use Rattle.vf_tool.specs.Verdict.{Judged, IsAccepted}
+use Rattle.vf_tool.specs.Run.{IsAnswer}
+use Rattle.vf_tool.specs.Safe.{IsSafeLinked, WhereAccepted, IsSafeRun}
+use Rattle.vf_tool.proofs.Formed.{spelled_is_formed}
+
+-- a unit that is accepted by right answers is safe, in each environment that has all of the unit's
+always_safe : (file source : List ℕ) (t : Seen) (core : Core) (e : Environment) → AreRightFrom 0 t → IsAccepted file source nothing_seen t core → Extends (environment_of core) e → IsAlwaysSafe e (program_of core.plain)
+always_safe file source t core e right accepted extends =
+    accepted_is_safe core e 0 (begun nothing_seen) t (spelled_is_formed file 0 source core accepted.spelled) extends (omega arith) accepted.follows right
+
+safe_unit : (file source : List ℕ) (t : Seen) (core : Core) → AreRightFrom 0 t → IsAccepted file source nothing_seen t core → IsSafeLinked (environment_of core ∷ []) (program_of core.plain)
+safe_unit file source t core right accepted = record {
+  environment = environment_of core;
+  linked = one_unit_links core;
+  safe = λ events. (always_safe file source t core (environment_of core) right accepted (extends_itself (environment_of core)) events).0;
+  kept = λ e linked events. (always_safe file source t core e right accepted (linked.all (environment_of core) (0, omega arith, refl)) events).1;
+}
+
+safe_verdict : (file source : List ℕ) (t : Seen) (v : Verdict) → AreRightFrom 0 t → Judged file source nothing_seen t v → WhereAccepted v
+safe_verdict file source t (Accepted core) right judged = safe_unit file source t core right judged
+safe_verdict file source t (Refused refusal) right judged = tt
+
+-- what a run answers by right answers is safe
+pub safe_run : (contents : Contents) (m : FileMap) (words : List (List ℕ)) (schedule file : List ℕ) (t : Seen) (accepted told : Bool) (text : List ℕ) → contents ≡ Some m → IsRun words schedule file → AreRightFrom 0 t → accepted ≡ told → IfSome contents (λ n. IsAnswer n schedule file t accepted text) → IsSafeRun m words t told
+safe_run contents m words schedule file t accepted told text is run right same h =
+    let a : IsAnswer m schedule file t accepted text = subst (λ (c : Contents). IfSome c (λ n. IsAnswer n schedule file t accepted text)) is h in
+    record {
+      schedule = schedule;
+      file = file;
+      words_are = run;
+      source = a.source;
+      there = a.there;
+      verdict = a.answers.verdict;
+      judged = a.answers.judged;
+      accepted_is = sym same ∙ a.answers.accepted_is;
+      safe = safe_verdict file a.source t a.answers.verdict right a.answers.judged;
+    }
