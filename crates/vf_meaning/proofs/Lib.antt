@@ -3,6 +3,7 @@ pub mod Values
 pub mod Structural
 pub mod Ordered
 pub mod Parts
+pub mod FitSteps
 pub mod Satisfaction
 pub mod Growth
 pub mod Joins

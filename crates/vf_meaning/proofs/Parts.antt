@@ -92,7 +92,7 @@ content_own (HandleOf r d i) = and_from (is_same r r) _ (value_own r) (and_from 
 pub tells_contents : TellsContents
 tells_contents c d = (content_told c d, λ e. subst (λ x. same_content c x ≡ true) e (content_own c))
 
-same_or_not : (c d : Content) → (c ≡ d) ⊎ (c ≢ d)
+pub same_or_not : (c d : Content) → (c ≡ d) ⊎ (c ≢ d)
 same_or_not c d =
     ⊎_elim (λ yes1. inl (content_told c d yes1)) (λ no1. inr (λ e. false≢true (sym no1 ∙ (tells_contents c d).1 e))) (cases_Bool (same_content c d))
 
@@ -137,11 +137,11 @@ parts_add = (⊕-comm, ⊕-assoc, nothing-⊕)
 pub sums_turn : SumsTurn
 sums_turn p q r h = record { agree = λ l c d x y. sym (h.agree l d c y x); adds = h.adds ∙ ⊕-comm p q }
 
-⊕-at : (p q : Part) (l : Location) (c : Content) → (p ⊕ q) l c ≡ sum (p l c) (q l c)
+pub ⊕-at : (p q : Part) (l : Location) (c : Content) → (p ⊕ q) l c ≡ sum (p l c) (q l c)
 unfolding ◌⊕◌
 ⊕-at p q l c = refl
 
-sum_at : (p q r : Part) → IsSum p q r → (l : Location) (c : Content) → r l c ≡ sum (p l c) (q l c)
+pub sum_at : (p q r : Part) → IsSum p q r → (l : Location) (c : Content) → r l c ≡ sum (p l c) (q l c)
 sum_at p q r h l c = ap (λ x. x l c) h.adds ∙ ⊕-at p q l c
 
 pub in_left : (p q r : Part) → IsSum p q r → (l : Location) (c : Content) → IsPositive (p l c) → IsPositive (r l c)
@@ -209,7 +209,7 @@ singles_add l c x y = record {
     both false x y = refl
 
 -- ---- what fits
-just_one : (p : Part) (l : Location) (c : Content) (x : Dyadic) → HasJust p l c x → (d : Content) → IsPositive (p l d) → d ≡ c
+pub just_one : (p : Part) (l : Location) (c : Content) (x : Dyadic) → HasJust p l c x → (d : Content) → IsPositive (p l d) → d ≡ c
 just_one p l c x h d y = ⊎_elim (λ same. same) (λ other. absurd (not_nought (p l d) (h.else d other) y)) (same_or_not d c)
 
 -- a location of which at most the whole of one content is owned
@@ -279,7 +279,7 @@ fitting_is_at_most_whole p m l c h =
     ]
 
 -- nothing can be added to the whole
-no_more : (y : Dyadic) → AtMost (sum whole y) whole → y ≡ nought
+pub no_more : (y : Dyadic) → AtMost (sum whole y) whole → y ≡ nought
 no_more y l =
     let e = order_is_total.1 (sum whole y) whole l ((order_is_by_sums whole (sum whole y)).1 (y, refl)) in
     ⊎_elim (λ none. none) (λ some. absurd (over (units whole (exponent y)) (units y (exponent y)) (sym (sum_units whole y (exponent y) (omega arith)) ∙ ap (λ x. units x (exponent y)) e) (units_positive y (exponent y) some)))

@@ -8,6 +8,7 @@ pub mod Structural
 pub mod Parts
 pub mod Fits
 pub mod PartLaws
+pub mod FitLaws
 pub mod Assertions
 pub mod Names
 pub mod Sorts

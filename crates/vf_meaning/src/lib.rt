@@ -5,6 +5,7 @@
 //! with an empty body, each of which has a law as its contract.
 #![tactic(auto)]
 
+mod fit_laws;
 mod fixpoint_laws;
 mod fraction_laws;
 mod instances;
@@ -13,6 +14,11 @@ mod satisfaction_laws;
 mod share_out_laws;
 mod value_laws;
 
+pub use fit_laws::{
+    blocks_are_added, blocks_are_freed, fields_are_there, fields_are_written, handles_are_there,
+    held_are_there, indexes_are_there, indexes_are_written, int_blocks_are_there,
+    mutexes_are_acquired, mutexes_are_released, mutexes_are_there, structs_are_there,
+};
 pub use fixpoint_laws::{fixpoints_meet_equations, listed_fixpoints_meet_equations};
 pub use fraction_laws::{
     counts_in_units, form_is_one, halves_make_the_whole, nought_adds_nothing, order_is_by_sums,

@@ -1,5 +1,5 @@
 -- The arguments of chunks: what is asked of them, made sure by the values that they have.
-use Rattle.std.proofs.Common.{◌≡◌, ℕ, zero, suc, ◌-◌, List, [], ◌∷◌, ◌++◌, length, map, Option, Some, None, pos, refl, sym, ap, ap₂, subst, ◌∙◌, ◌⊎◌, inl, inr, arith}
+use Rattle.std.proofs.Common.{◌≡◌, ℕ, zero, suc, ◌-◌, List, [], ◌∷◌, ◌++◌, length, Option, Some, None, pos, refl, sym, ap₂, subst, ◌⊎◌, inl, inr}
 use Rattle.vf_tree.specs.Core.{Identity}
 use Rattle.vf_model.specs.Values.{Dyadic, Value, Values}
 use Rattle.vf_model.specs.Values as values
@@ -7,7 +7,7 @@ use Rattle.vf_meaning.specs.Ghost.{Name}
 use Rattle.vf_meaning.specs.Valuations.{Valuation, no_value, listed}
 use Rattle.vf_meaning.specs.GhostValues.{Interpretation, value_of}
 use Rattle.vf_meaning.specs.Names.{Uses}
-use Rattle.vf_meaning.specs.Assertions.{Head, BlockOf, Named, Family, Applied, BodyName, Environment}
+use Rattle.vf_meaning.specs.Assertions.{Head, BlockOf, Named, Family, Applied, BodyName}
 use Rattle.vf_meaning.specs.Parts.{Part}
 use Rattle.vf_meaning.specs.Chunks.{Wanted, Just, Meets, AllMeet, start_of, Primitive, Mutexes, HeldMutexes, Handles, IntBlocks, IntCells, Others, primitive}
 use Rattle.vf_meaning.specs.Chunks as chunks

@@ -1,5 +1,5 @@
 -- The names of a case get new symbols, which have the values of the constructor's arguments.
-use Rattle.std.proofs.Common.{◌≡◌, ℕ, ◌-◌, Bool, cond, List, [], ◌∷◌, ◌++◌, map, slice_get, Option, Some, None, refl, sym, ap, ap₂, subst, ◌∙◌, ◌⊎◌, inl, inr}
+use Rattle.std.proofs.Common.{◌≡◌, ℕ, ◌-◌, cond, List, [], ◌∷◌, ◌++◌, map, slice_get, Option, Some, None, refl, sym, ap, ap₂, subst, ◌∙◌, inl, inr}
 use Rattle.std.proofs.lemmas.List.{append_assoc, append-nil}
 use Rattle.std.proofs.lemmas.Bool.{cases_Bool}
 use Rattle.vf_tree.specs.Core.{ProgramTree}
@@ -7,10 +7,10 @@ use Rattle.vf_model.specs.Values.{Value, Values}
 use Rattle.vf_model.specs.Values as values
 use Rattle.vf_meaning.specs.Ghost.{Sort, Name, Numbered, Result, This, CurrentThread, same_name}
 use Rattle.vf_meaning.specs.Valuations.{Valuation, listed, bound, all_bound}
-use Rattle.vf_meaning.specs.Assertions.{PatternTree, Names, Environment}
+use Rattle.vf_meaning.specs.Assertions.{Names, Environment}
 use Rattle.vf_meaning.specs.Sorts.{HasSort}
 use Rattle.vf_meaning.specs.Parts.{Part}
-use Rattle.vf_meaning.specs.Chunks.{Wanted, Just}
+use Rattle.vf_meaning.specs.Chunks.{Just}
 use Rattle.vf_meaning.proofs.Values.{tells_names}
 use Rattle.vf_rules.specs.Laws.{Grows, StoreSorted}
 use Rattle.vf_rules.specs.Terms.{Term, Store, stored}
@@ -58,8 +58,8 @@ bound_means : (e : Environment) (v : Valuation) (s : Store) (w : Valuation) (x :
 bound_means e v s w x t u is value m y z h =
     elim (cases_Bool (same_name y x)) [
       | inl same ↦
-        let one : t ≡ z = some_same (sym is ∙ ap s (sym ((tells_names y x).0 same)) ∙ h) in
-        sym (ap (value_in e v) one) ∙ value ∙ ap (λ b. cond b u (w y)) (sym same)
+          let one : t ≡ z = some_same (sym is ∙ ap s (sym ((tells_names y x).0 same)) ∙ h) in
+          sym (ap (value_in e v) one) ∙ value ∙ ap (λ b. cond b u (w y)) (sym same)
       | inr other ↦ m y z h ∙ ap (λ b. cond b u (w y)) (sym other)
     ]
 
@@ -90,8 +90,8 @@ module _ (e : Environment) (prog : ProgramTree) (sorts : List Sort) (scale : Ter
       let met = name_met e v1 sorts x (symbol y) u own h.0 in
       let so1 : StoreSorted e v1 sorts s = λ j b t is known. subst (λ z. HasSort e z b) (sym (fresh_value e v y u t ((k.1).store (Numbered j) t is))) (so j b t is known) in
       let r = names_read (n - 1) xs us (stored s x (symbol y)) (assuming_all st (facts_of_name sorts x (symbol y))) (before ++ Some (symbol y) ∷ []) k.3 v1
-          (assuming_all_stands e v1 st locals names p _ met (stands_fresh e v y u st locals names p (k.1).state stands))
-          (stored_sorted e v1 sorts s x (symbol y) so1 met k.2) h.1 in
+      (assuming_all_stands e v1 st locals names p _ met (stands_fresh e v y u st locals names p (k.1).state stands))
+      (stored_sorted e v1 sorts s x (symbol y) so1 met k.2) h.1 in
       let symbol_is : value_in e r.under (symbol y) ≡ u = r.kept (symbol y) (among_last before (symbol y)) ∙ own in
       record {
         under = r.under;

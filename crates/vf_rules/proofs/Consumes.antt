@@ -1,39 +1,33 @@
 -- Consuming an assertion parts what a state stands for: a part that satisfies it, and what the state then stands for.
-use Rattle.std.proofs.Common.{◌≡◌, ℕ, ◌≤◌, max, Bool, true, false, not, List, [], ◌∷◌, ◌++◌, map, drop, slice_get, Option, Some, None, refl, sym, ap, ap₂, subst, subst₂, ◌∙◌, ◌⊎◌, inl, inr, arith}
+use Rattle.std.proofs.Common.{◌≡◌, ℕ, max, Bool, true, false, not, List, [], ◌∷◌, map, Option, Some, refl, sym, ap, subst, subst₂, ◌∙◌, inl, inr, arith}
 use Rattle.std.specs.Prelude.{IsTrue}
 use Rattle.std.specs.Bool.{MatchBool}
 use Rattle.std.proofs.lemmas.Bool.{cases_Bool}
-use Rattle.vf_tree.specs.Core.{Identity, Field, ProgramTree, Equal}
+use Rattle.vf_tree.specs.Core.{Field, ProgramTree, Equal}
 use Rattle.vf_model.specs.Values.{Dyadic, Value, Values, same_identity}
 use Rattle.vf_model.specs.Values as values
 use Rattle.vf_meaning.specs.Fractions.{whole, product, IsPositive}
-use Rattle.vf_meaning.specs.Ghost.{Sort, Name, Numbered, GhostExpression, Not, Compare, Construct, Fraction, Share}
-use Rattle.vf_meaning.specs.Valuations.{Valuation, is_true, fraction_in, listed, all_bound}
+use Rattle.vf_meaning.specs.Ghost.{Sort, Name, GhostExpression, Not, Compare, Construct, Fraction, Share}
+use Rattle.vf_meaning.specs.Valuations.{Valuation, is_true, fraction_in, all_bound}
 use Rattle.vf_meaning.specs.GhostValues.{value_of}
-use Rattle.vf_meaning.specs.Assertions.{ShareTree, Times, Taken, Head, BlockOf, Named, Family, Applied, PatternTree, Names, Assertion, Pure, Empty, Both, Choose, Switch, Cell, Chunk, Branches, no_branches, branch, Environment}
-use Rattle.vf_meaning.specs.Sorts.{HasSort, AreOfSorts}
+use Rattle.vf_meaning.specs.Assertions.{ShareTree, Times, Taken, Head, BlockOf, Named, Family, Applied, PatternTree, Assertion, Pure, Empty, Both, Choose, Switch, Cell, Chunk, Branches, no_branches, branch, Environment}
 use Rattle.vf_meaning.specs.Parts.{Part, nothing, IsSum}
-use Rattle.vf_meaning.specs.Chunks.{fraction_of, Wanted, Just, wanted, IsFieldCell}
-use Rattle.vf_meaning.specs.Satisfaction.{IsShare, SatisfiesFamily, SatisfiesValue, SatisfiesHead, SatisfiesBranch, MeansAt, SatisfiesAt}
+use Rattle.vf_meaning.specs.Chunks.{fraction_of, Wanted, wanted}
+use Rattle.vf_meaning.specs.Satisfaction.{SatisfiesFamily, SatisfiesValue, SatisfiesHead, SatisfiesBranch, MeansAt, SatisfiesAt}
 use Rattle.vf_meaning.proofs.Parts.{sums_turn, sums_regroup, nothing_is_neutral}
 use Rattle.vf_meaning.proofs.Satisfaction.{depth_grows}
 use Rattle.vf_rules.specs.Laws.{Grows, StoreSorted}
 use Rattle.vf_rules.specs.Terms.{Term, Store, term_of, stored, times_terms, head_of, IsBound, IsBoundHead}
 use Rattle.vf_rules.specs.Terms as terms
-use Rattle.vf_rules.specs.States.{Fact, Holds, ChunkHead, CellOf, Of, SymbolicChunk, SymbolicState, meaning, value_in, IsMet, Meets, wanted_in, HeadMeans, ChunkMeans, ChunksMean, StoreMeans, StandsFor, assuming, with_chunks}
-use Rattle.vf_rules.specs.Fresh.{symbol}
-use Rattle.vf_rules.specs.Produce.{known, facts_of_name, NamesHaveSorts, IsCovered, Given, ProducePatterns}
-use Rattle.vf_rules.specs.Take.{same, with_share, IsQuotient, Takes, Removes, Changes}
-use Rattle.vf_rules.specs.Consume.{EntailsAll, HeadFits, ConsumePatterns, ConsumeShare, Consume, ConsumeBranches}
+use Rattle.vf_rules.specs.States.{Fact, Holds, ChunkHead, CellOf, Of, SymbolicChunk, SymbolicState, meaning, value_in, IsMet, Meets, wanted_in, HeadMeans, ChunksMean, StoreMeans, StandsFor, assuming, with_chunks}
+use Rattle.vf_rules.specs.Produce.{known, NamesHaveSorts, IsCovered}
+use Rattle.vf_rules.specs.Consume.{HeadFits, ConsumeShare, Consume, ConsumeBranches}
 use Rattle.vf_rules.proofs.Terms.{bound_value, stored_own, stored_grows, grown_means}
 use Rattle.vf_rules.proofs.Stands.{assuming_stands}
-use Rattle.vf_rules.proofs.Patterns.{Read, patterns_read}
-use Rattle.vf_rules.proofs.Arguments.{refined_none}
-use Rattle.vf_rules.proofs.Names.{names_unbound, names_distinct, names_values, names_sorted, names_mean, else_same, asked_of_names}
-use Rattle.vf_rules.proofs.Produces.{true_value, false_value, given, constructed_met, single_argument}
-use Rattle.vf_rules.proofs.CaseNames.{NamesRead, names_read}
-use Rattle.vf_rules.proofs.Takes.{same_value, rescaled, Parted, takes_parted, removes_parted, changes_stand}
-use Rattle.vf_rules.proofs.Fits.{AllWeaker, cell_less, head_less, entailed, stored_sorted, PatternsFit, patterns_fit, both_fractions, times_back, positive_factor}
+use Rattle.vf_rules.proofs.Produces.{given, constructed_met}
+use Rattle.vf_rules.proofs.CaseNames.{names_read}
+use Rattle.vf_rules.proofs.Takes.{same_value, rescaled, takes_parted, removes_parted, changes_stand}
+use Rattle.vf_rules.proofs.Fits.{AllWeaker, cell_less, head_less, entailed, stored_sorted, patterns_fit, both_fractions, times_back, positive_factor}
 
 -- a way on after an assertion: what satisfies it is split off
 pub record Consumed (e : Environment) (sorts : List Sort) (K : Store → SymbolicState → Type 0) (S : ℕ → Valuation → Part → Type 0) (v : Valuation) (scale : Term) (s : Store)
@@ -319,16 +313,16 @@ module _ (e : Environment) (prog : ProgramTree) (sorts : List Sort) (scale : Ter
     consumed (Choose x a b) s st K k v p stands so scaled =
         elim (cases_Bool (is_true (value_in e v (term_of s x)))) [
           | inl yes1 ↦
-            let o = consumed a s (assuming st (Holds (term_of s x))) K
-                (given e prog sorts scale locals names st (Holds (term_of s x)) (λ st1. Consume e prog sorts scale a s st1 K) k.1 v p stands yes1)
-                v p (assuming_stands e v st locals names p (Holds (term_of s x)) yes1 stands) so scaled in
-            meant K (Means a) (Means (Choose x a b)) v s p o (λ w m h. chosen (is_true (value_of (meaning e) w x)) _ _ (truth_is v w s o.store x true o.under k.0 o.grows o.stays m yes1) h)
+              let o = consumed a s (assuming st (Holds (term_of s x))) K
+              (given e prog sorts scale locals names st (Holds (term_of s x)) (λ st1. Consume e prog sorts scale a s st1 K) k.1 v p stands yes1)
+              v p (assuming_stands e v st locals names p (Holds (term_of s x)) yes1 stands) so scaled in
+              meant K (Means a) (Means (Choose x a b)) v s p o (λ w m h. chosen (is_true (value_of (meaning e) w x)) _ _ (truth_is v w s o.store x true o.under k.0 o.grows o.stays m yes1) h)
           | inr no1 ↦
-            let met : IsMet e v (Holds (Not (term_of s x))) = ap not no1 in
-            let o = consumed b s (assuming st (Holds (Not (term_of s x)))) K
-                (given e prog sorts scale locals names st (Holds (Not (term_of s x))) (λ st1. Consume e prog sorts scale b s st1 K) k.2 v p stands met)
-                v p (assuming_stands e v st locals names p (Holds (Not (term_of s x))) met stands) so scaled in
-            meant K (Means b) (Means (Choose x a b)) v s p o (λ w m h. refused (is_true (value_of (meaning e) w x)) _ _ (truth_is v w s o.store x false o.under k.0 o.grows o.stays m no1) h)
+              let met : IsMet e v (Holds (Not (term_of s x))) = ap not no1 in
+              let o = consumed b s (assuming st (Holds (Not (term_of s x)))) K
+              (given e prog sorts scale locals names st (Holds (Not (term_of s x))) (λ st1. Consume e prog sorts scale b s st1 K) k.2 v p stands met)
+              v p (assuming_stands e v st locals names p (Holds (Not (term_of s x))) met stands) so scaled in
+              meant K (Means b) (Means (Choose x a b)) v s p o (λ w m h. refused (is_true (value_of (meaning e) w x)) _ _ (truth_is v w s o.store x false o.under k.0 o.grows o.stays m no1) h)
         ]
     consumed (Switch x branches) s st K k v p stands so scaled =
         let o = branch_consumed branches (term_of s x) s st K k.2 v p (value_in e v (term_of s x)) refl stands so scaled ((k.1).by v stands.path) in
@@ -344,35 +338,35 @@ module _ (e : Environment) (prog : ProgramTree) (sorts : List Sort) (scale : Ter
     branch_consumed (branch f xs a rest) t s st K k v p (values.Constructed d us) is stands so scaled covered =
         elim (cases_Bool (same_identity f d)) [
           | inl yes1 ↦
-            let fitting = subst (λ z. MatchBool z (NamesHaveSorts e sorts xs us) (IsCovered e sorts rest (values.Constructed d us))) yes1 covered in
-            let one = names_read e prog sorts scale _ locals names p 0 xs us s st (Some t ∷ []) k.0 v stands so fitting in
-            let met = constructed_met e prog sorts scale c 0 locals names one.under t f d one.new us yes1 (one.kept t (inl refl) ∙ is) one.new_are in
-            let fact = Holds (Compare Equal t (Construct f (terms.in_row (known one.new)))) in
-            let two = consumed a one.store (assuming one.state fact) K
-                (given e prog sorts scale locals names one.state fact (λ st2. Consume e prog sorts scale a one.store st2 K) one.holds one.under p one.stands met)
-                one.under p (assuming_stands e one.under one.state locals names p fact met one.stands) one.sorted (one.scale_is ∙ scaled) in
-            record {
-              under = two.under;
-              off = two.off;
-              left = two.left;
-              sums = two.sums;
-              store = two.store;
-              state = two.state;
-              holds = two.holds;
-              stands = two.stands;
-              grows = λ y z g. two.grows y z (one.grows y z g);
-              stays = λ y z g. two.stays y z (one.grows y z g) ∙ one.stays y z g;
-              scale_is = two.scale_is ∙ one.scale_is;
-              sorted = two.sorted;
-              depth = two.depth;
-              satisfies = λ w m. chosen (same_identity f d) _ _ yes1
-                  (two.satisfies (all_bound w xs us) (one.rebound two.store two.under w two.grows two.stays m));
-            }
+              let fitting = subst (λ z. MatchBool z (NamesHaveSorts e sorts xs us) (IsCovered e sorts rest (values.Constructed d us))) yes1 covered in
+              let one = names_read e prog sorts scale _ locals names p 0 xs us s st (Some t ∷ []) k.0 v stands so fitting in
+              let met = constructed_met e prog sorts scale c 0 locals names one.under t f d one.new us yes1 (one.kept t (inl refl) ∙ is) one.new_are in
+              let fact = Holds (Compare Equal t (Construct f (terms.in_row (known one.new)))) in
+              let two = consumed a one.store (assuming one.state fact) K
+              (given e prog sorts scale locals names one.state fact (λ st2. Consume e prog sorts scale a one.store st2 K) one.holds one.under p one.stands met)
+              one.under p (assuming_stands e one.under one.state locals names p fact met one.stands) one.sorted (one.scale_is ∙ scaled) in
+              record {
+                under = two.under;
+                off = two.off;
+                left = two.left;
+                sums = two.sums;
+                store = two.store;
+                state = two.state;
+                holds = two.holds;
+                stands = two.stands;
+                grows = λ y z g. two.grows y z (one.grows y z g);
+                stays = λ y z g. two.stays y z (one.grows y z g) ∙ one.stays y z g;
+                scale_is = two.scale_is ∙ one.scale_is;
+                sorted = two.sorted;
+                depth = two.depth;
+                satisfies = λ w m. chosen (same_identity f d) _ _ yes1
+                    (two.satisfies (all_bound w xs us) (one.rebound two.store two.under w two.grows two.stays m));
+              }
           | inr no1 ↦
-            let o = branch_consumed rest t s st K k.1 v p (values.Constructed d us) is stands so scaled
-                (subst (λ z. MatchBool z (NamesHaveSorts e sorts xs us) (IsCovered e sorts rest (values.Constructed d us))) no1 covered) in
-            meant K (λ n w q. SatisfiesBranch (MeansAt e n) (meaning e) c rest (values.Constructed d us) w q) (λ n w q. SatisfiesBranch (MeansAt e n) (meaning e) c (branch f xs a rest) (values.Constructed d us) w q) v s p o
-            (λ w m h. refused (same_identity f d) _ _ no1 h)
+              let o = branch_consumed rest t s st K k.1 v p (values.Constructed d us) is stands so scaled
+              (subst (λ z. MatchBool z (NamesHaveSorts e sorts xs us) (IsCovered e sorts rest (values.Constructed d us))) no1 covered) in
+              meant K (λ n w q. SatisfiesBranch (MeansAt e n) (meaning e) c rest (values.Constructed d us) w q) (λ n w q. SatisfiesBranch (MeansAt e n) (meaning e) c (branch f xs a rest) (values.Constructed d us) w q) v s p o
+              (λ w m h. refused (same_identity f d) _ _ no1 h)
         ]
     branch_consumed (branch f xs a rest) t s st K k v p (values.Number z) is stands so scaled covered = absurd covered
     branch_consumed (branch f xs a rest) t s st K k v p (values.Truth z) is stands so scaled covered = absurd covered

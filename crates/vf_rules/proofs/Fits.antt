@@ -1,28 +1,27 @@
 -- A chunk that fits what is wanted satisfies it.
-use Rattle.std.proofs.Common.{◌≡◌, ℕ, suc, ◌+◌, ◌*◌, ◌<◌, List, [], ◌∷◌, ◌++◌, map, slice_get, Option, Some, None, refl, sym, ap, ap₂, subst, subst₂, ◌∙◌, ◌⊎◌, inl, inr, ⊎_elim, arith}
+use Rattle.std.proofs.Common.{◌≡◌, ℕ, ◌+◌, ◌*◌, ◌<◌, List, [], ◌∷◌, ◌++◌, map, slice_get, Option, Some, None, refl, sym, ap, ap₂, subst, ◌∙◌, inl, inr, ⊎_elim, arith}
 use Rattle.std.proofs.lemmas.Bool.{cases_eq}
 use Rattle.vf_tree.specs.Core.{Identity, ProgramTree}
 use Rattle.vf_model.specs.Values.{Dyadic, Value, Values}
 use Rattle.vf_model.specs.Values as values
 use Rattle.vf_meaning.specs.Fractions.{nought, product, units, exponent, IsPositive}
-use Rattle.vf_meaning.specs.Ghost.{Sort, Name, Numbered, Result, This, CurrentThread, Fraction, Share}
+use Rattle.vf_meaning.specs.Ghost.{Sort, Name, Numbered, Result, This, CurrentThread, Fraction}
 use Rattle.vf_meaning.specs.Valuations.{Valuation, listed, fraction_in}
 use Rattle.vf_meaning.specs.GhostValues.{shared, value_of}
-use Rattle.vf_meaning.specs.Assertions.{ShareTree, Times, Taken, PatternTree, Is, Names, Wild, Head, BlockOf, Named, Family, Applied, BodyName, Environment}
+use Rattle.vf_meaning.specs.Assertions.{PatternTree, Is, Names, Wild, Head, BlockOf, Named, Family, Applied, BodyName, Environment}
 use Rattle.vf_meaning.specs.Sorts.{HasSort}
 use Rattle.vf_meaning.specs.Parts.{Part}
 use Rattle.vf_meaning.specs.Chunks.{product_if, times_names, fraction_of, Wanted, Just, wanted, Meets, AllMeet, CellMeets, RowMeets, Primitive, Mutexes, HeldMutexes, Handles, IntBlocks, IntCells, Others, primitive}
 use Rattle.vf_meaning.specs.Chunks as chunks
-use Rattle.vf_meaning.specs.Satisfaction.{SatisfiesBody, SatisfiesPrimitive, SatisfiesFamily, SatisfiesValue, SatisfiesHead, MeansAt}
+use Rattle.vf_meaning.specs.Satisfaction.{SatisfiesBody, SatisfiesPrimitive, SatisfiesFamily, SatisfiesValue, SatisfiesHead}
 use Rattle.vf_meaning.proofs.Fractions.{counts_in_units, units_positive}
-use Rattle.vf_meaning.proofs.Parts.{nought_or_positive, not_nought}
+use Rattle.vf_meaning.proofs.Parts.{nought_or_positive}
 use Rattle.vf_rules.specs.Terms.{Term, Store, term_named, term_of, stored, times_terms, AreBound}
 use Rattle.vf_rules.specs.States.{Fact, OfSort, SymbolicChunk, SymbolicState, meaning, value_in, IsMet, wanted_in, StoreMeans, Entails}
 use Rattle.vf_rules.specs.States as states
 use Rattle.vf_rules.specs.Produce.{facts_of_sort, facts_of_name}
-use Rattle.vf_rules.specs.Take.{same, IsQuotient, Takes, Removes}
-use Rattle.vf_rules.specs.Consume.{EntailsAll, ConsumePatterns, ConsumeShare}
-use Rattle.vf_rules.proofs.Terms.{bound_value, bound_named, named_term, stored_own, stored_other, stored_grows, grown_means, fraction_is}
+use Rattle.vf_rules.specs.Consume.{EntailsAll, ConsumePatterns}
+use Rattle.vf_rules.proofs.Terms.{bound_value, bound_named, stored_own, stored_other, stored_grows, grown_means}
 use Rattle.vf_rules.specs.Laws.{Grows, StoreSorted}
 use Rattle.vf_rules.proofs.Takes.{same_value}
 

@@ -1,20 +1,20 @@
 -- The names of a branch: bound apart from all others, they have the values of a constructor's arguments.
-use Rattle.std.proofs.Common.{◌≡◌, ◌≢◌, ℕ, ◌-◌, Bool, true, false, cond, List, [], ◌∷◌, ◌++◌, map, slice_get, Option, Some, None, refl, sym, ap, ap₂, subst, ◌∙◌, ◌⊎◌, inl, inr}
-use Rattle.std.proofs.lemmas.Bool.{false≢true, cases_Bool}
+use Rattle.std.proofs.Common.{◌≡◌, ◌≢◌, ℕ, ◌-◌, cond, List, [], ◌∷◌, map, slice_get, Option, Some, None, refl, sym, ap, ap₂, subst, ◌∙◌, inl, inr}
+use Rattle.std.proofs.lemmas.Bool.{cases_Bool}
 use Rattle.vf_tree.specs.Core.{ProgramTree}
 use Rattle.vf_model.specs.Values.{Value, Values}
 use Rattle.vf_model.specs.Values as values
 use Rattle.vf_meaning.specs.Ghost.{Sort, Name, Numbered, same_name}
 use Rattle.vf_meaning.specs.Valuations.{Valuation, listed, in_row, bound, all_bound}
-use Rattle.vf_meaning.specs.GhostValues.{value_of, values_of}
-use Rattle.vf_meaning.specs.Assertions.{PatternTree, Names, Environment}
+use Rattle.vf_meaning.specs.GhostValues.{values_of}
+use Rattle.vf_meaning.specs.Assertions.{Names, Environment}
 use Rattle.vf_meaning.specs.Sorts.{HasSort, AreOfSorts}
 use Rattle.vf_meaning.specs.Chunks.{Wanted, Just, wanted}
 use Rattle.vf_meaning.specs.Chunks as chunks
 use Rattle.vf_meaning.proofs.Values.{tells_names}
 use Rattle.vf_rules.specs.Terms.{Term, Store, stored}
 use Rattle.vf_rules.specs.Terms as terms
-use Rattle.vf_rules.specs.States.{SymbolicState, meaning, value_in, wanted_in, StoreMeans}
+use Rattle.vf_rules.specs.States.{SymbolicState, meaning, wanted_in, StoreMeans}
 use Rattle.vf_rules.specs.Fresh.{symbol}
 use Rattle.vf_rules.specs.Produce.{known, NamesHaveSorts, ProducePatterns}
 use Rattle.vf_rules.proofs.Terms.{stored_own, stored_other}

@@ -1,26 +1,21 @@
 -- Opening and closing keep what a state stands for.
-use Rattle.std.proofs.Common.{◌≡◌, ℕ, zero, suc, ◌<◌, List, [], ◌∷◌, ◌++◌, map, length, slice_get, Option, Some, None, refl, sym, ap, ap₂, subst, subst₂, ◌∙◌, ◌⊎◌, inl, inr, arith}
-use Rattle.vf_tree.specs.Core.{Identity, ProgramTree}
+use Rattle.std.proofs.Common.{◌≡◌, ℕ, zero, suc, ◌<◌, List, [], ◌∷◌, map, length, slice_get, Option, Some, None, refl, sym, ap, ap₂, subst, subst₂, ◌∙◌, arith}
 use Rattle.vf_model.specs.Values.{Dyadic, Value, Values}
 use Rattle.vf_model.specs.Values as values
-use Rattle.vf_meaning.specs.Fractions.{whole, IsPositive}
+use Rattle.vf_meaning.specs.Fractions.{whole}
 use Rattle.vf_meaning.specs.Ghost.{Sort, Name, Numbered, Result, This, CurrentThread, Function}
 use Rattle.vf_meaning.specs.Valuations.{Valuation, no_value, listed, in_row, count, value_at}
-use Rattle.vf_meaning.specs.Assertions.{Head, Named, Family, BodyName, Plain, Instance, BodyTree, Environment}
+use Rattle.vf_meaning.specs.Assertions.{Head, BodyName, Plain, Instance, BodyTree, Environment}
 use Rattle.vf_meaning.specs.Sorts.{HasSort, AreOfSorts}
-use Rattle.vf_meaning.specs.Parts.{Part, IsSum}
-use Rattle.vf_meaning.specs.Chunks.{Wanted, Just, AllMeet, primitive, Others}
+use Rattle.vf_meaning.specs.Parts.{Part}
+use Rattle.vf_meaning.specs.Chunks.{Wanted, Just, AllMeet}
 use Rattle.vf_meaning.specs.Satisfaction.{SatisfiesBody, SatisfiesPrimitive, SatisfiesFamily, SatisfiesHead, BeginsWith, SatisfiesOf, SatisfiesIf, MeansAt, SatisfiesAt}
-use Rattle.vf_meaning.proofs.Parts.{sums_turn, in_left}
 use Rattle.vf_rules.specs.Terms.{Term, Store}
-use Rattle.vf_rules.specs.States.{Fact, OfSort, Of, SymbolicChunk, SymbolicState, meaning, value_in, Meets, wanted_in, HeadMeans, ChunkMeans, ChunksMean, StoreMeans, StandsFor, Entails, with_chunk, with_chunks}
-use Rattle.vf_rules.specs.Types.{IsTypedPart}
-use Rattle.vf_rules.specs.Produce.{Produce}
-use Rattle.vf_rules.specs.Take.{same, with_share, all_known}
-use Rattle.vf_rules.specs.Laws.{Outcome, IsAmong, Grows, StoreSorted}
-use Rattle.vf_rules.specs.Predicates.{store_of, HasBody, head_named, IsOpenable, Opens, AreInhabited, AreSorted, closed, Closes}
-use Rattle.vf_rules.specs.Predicates as predicates
-use Rattle.vf_rules.specs.PredicateLaws.{SomeStands, OpeningKeeps, ClosingKeeps}
+use Rattle.vf_rules.specs.States.{Fact, meaning, value_in, Meets, wanted_in, HeadMeans, ChunkMeans, StoreMeans, with_chunk, with_chunks}
+use Rattle.vf_rules.specs.Take.{same, all_known}
+use Rattle.vf_rules.specs.Laws.{IsAmong, Grows, StoreSorted}
+use Rattle.vf_rules.specs.Predicates.{store_of, HasBody, head_named, IsOpenable, AreInhabited, AreSorted, closed}
+use Rattle.vf_rules.specs.PredicateLaws.{OpeningKeeps, ClosingKeeps}
 use Rattle.vf_rules.proofs.Stands.{with_chunk_stands}
 use Rattle.vf_rules.proofs.Produces.{produced, typed_left}
 use Rattle.vf_rules.proofs.Consumes.{consumed}
@@ -148,8 +143,8 @@ opening_keeps e prog st outs o locals names v p m typed =
     let head = subst₂ (λ h ts. HeadMeans e v x h ts t.off) o.head_is o.arguments_are (t.chunk).head in
     let b = opened e v head.0 x o.name o.body o.arguments t.off o.there o.number (head_body e v st.path head.0 x o.head o.name _ t.off o.of_head m.path head.1) in
     let r = produced e prog (o.body).sorts o.share x b.depth locals names (o.body).assertion (store_of o.arguments) (with_chunks st o.others) (IsAmong outs) o.produced v b.under t.off t.left p
-        (record { path = m.path; locals_mean = m.locals_mean; names_mean = m.names_mean; chunks_mean = t.chunks_mean }) b.means b.sorts (t.chunk).share (t.chunk).positive b.satisfies
-        (typed_left e prog t.off t.left p t.sums typed) t.sums in
+    (record { path = m.path; locals_mean = m.locals_mean; names_mean = m.names_mean; chunks_mean = t.chunks_mean }) b.means b.sorts (t.chunk).share (t.chunk).positive b.satisfies
+    (typed_left e prog t.off t.left p t.sums typed) t.sums in
     record { under = r.under; store = r.store; state = r.state; among = r.holds; stands = r.stands }
 
 -- ---- closing
@@ -237,7 +232,7 @@ closing_keeps e prog st outs o locals names v p m =
     let f = (o.fraction).by v m.path in
     let x = f.0 in
     let c = consumed e prog (o.body).sorts o.share x locals names (o.body).assertion (store_of o.arguments) st (λ s st1. IsAmong outs s (with_chunk st1 (closed (head_named o.name) o.share o.arguments))) o.consumed v p m
-        (arguments_sorted e v st.path (o.body).sorts o.arguments o.of_sorts m.path) f.1 in
+    (arguments_sorted e v st.path (o.body).sorts o.arguments o.of_sorts m.path) f.1 in
     let w = completed e c.under (o.body).sorts o.inhabited c.store in
     let means = completed_means e c.under (o.body).sorts o.inhabited c.store in
     let before = still_mean e v c.under w (store_of o.arguments) c.store c.grows c.stays means in
@@ -249,9 +244,11 @@ closing_keeps e prog st outs o locals names v p m =
       begins = begins_row e v w o.arguments before;
       satisfies = c.satisfies w means;
     } in
-    let body : SatisfiesBody (MeansAt e (suc c.depth)) x o.name (map (wanted_in e c.under) (all_known o.arguments)) c.off =
-        (in_row us, subst₂ (λ a b. AllMeet a b) (sym (same_asked e v c.under o.arguments (λ k t h. c.stays (Numbered k) t h))) (sym (listed_row us)) (meet_known e v o.arguments),
-        subst (λ b. SatisfiesIf e (MeansAt e c.depth) x b (in_row us) c.off) (sym o.there) of_body) in
+    let body : SatisfiesBody (MeansAt e (suc c.depth)) x o.name (map (wanted_in e c.under) (all_known o.arguments)) c.off = (
+      in_row us,
+      subst₂ (λ a b. AllMeet a b) (sym (same_asked e v c.under o.arguments (λ k t h. c.stays (Numbered k) t h))) (sym (listed_row us)) (meet_known e v o.arguments),
+      subst (λ b. SatisfiesIf e (MeansAt e c.depth) x b (in_row us) c.off) (sym o.there) of_body,
+    ) in
     let chunk : ChunkMeans e c.under (closed (head_named o.name) o.share o.arguments) c.off = record {
       fraction = x;
       share = c.scale_is ∙ f.1;

@@ -1,14 +1,13 @@
 -- Reading the patterns and the share of a chunk adds new symbols, which have the values that the names stand for.
-use Rattle.std.proofs.Common.{◌≡◌, ◌≢◌, ℕ, zero, suc, ◌-◌, List, [], ◌∷◌, ◌++◌, map, slice_get, Option, Some, None, refl, sym, ap, ap₂, subst, ◌∙◌, ◌⊎◌, inl, inr, arith}
+use Rattle.std.proofs.Common.{◌≡◌, ℕ, zero, suc, ◌-◌, List, [], ◌∷◌, ◌++◌, map, slice_get, Option, Some, None, refl, sym, ap, ap₂, subst, ◌∙◌, inl, arith}
 use Rattle.std.proofs.lemmas.List.{append_assoc, append-nil}
 use Rattle.vf_tree.specs.Core.{ProgramTree}
 use Rattle.vf_model.specs.Values.{Dyadic, Value}
 use Rattle.vf_model.specs.Values as values
 use Rattle.vf_meaning.specs.Fractions.{product}
-use Rattle.vf_meaning.specs.Ghost.{Sort, Fractions, Name, Numbered, Result, This, CurrentThread, GhostExpression, Variable, Fraction, Share}
-use Rattle.vf_meaning.specs.Valuations.{Valuation, no_value, fraction_in, bound}
+use Rattle.vf_meaning.specs.Ghost.{Sort, Fractions, Name, Numbered, Result, This, CurrentThread, Fraction, Share}
+use Rattle.vf_meaning.specs.Valuations.{Valuation, fraction_in, bound}
 use Rattle.vf_meaning.specs.GhostValues.{shared, value_of}
-use Rattle.vf_meaning.specs.Names.{Uses}
 use Rattle.vf_meaning.specs.Assertions.{ShareTree, Times, Taken, PatternTree, Is, Names, Wild, Environment}
 use Rattle.vf_meaning.specs.Sorts.{HasSort, AreOfSorts}
 use Rattle.vf_meaning.specs.Parts.{Part}
@@ -16,14 +15,13 @@ use Rattle.vf_meaning.specs.Chunks.{product_if, times_names, fraction_of, Wanted
 use Rattle.vf_meaning.specs.Chunks as chunks
 use Rattle.vf_meaning.specs.Fractions.{IsPositive}
 use Rattle.vf_rules.specs.Laws.{Grows}
-use Rattle.vf_rules.specs.Terms.{Term, Store, term_named, term_of, stored, times_terms, AreBound}
-use Rattle.vf_rules.specs.States.{Fact, OfSort, SymbolicState, meaning, value_in, IsMet, Meets, wanted_in, StoreMeans, StandsFor, assuming_all}
-use Rattle.vf_rules.specs.Fresh.{symbol, UsesArguments, IsNew}
+use Rattle.vf_rules.specs.Terms.{Term, Store, term_of, stored, times_terms, AreBound}
+use Rattle.vf_rules.specs.States.{OfSort, SymbolicState, meaning, value_in, Meets, wanted_in, StoreMeans, StandsFor, assuming_all}
+use Rattle.vf_rules.specs.Fresh.{symbol}
 use Rattle.vf_rules.specs.Produce.{facts_of_sort, facts_of_name, ProducePatterns, ProduceShare}
-use Rattle.vf_rules.specs.Types.{facts_of_type}
 use Rattle.vf_rules.proofs.Terms.{bound_value, bound_named, own_symbol, fresh_value, fresh_store, stored_means, stored_grows, fraction_is}
 use Rattle.vf_rules.proofs.Stands.{stands_fresh, assuming_all_stands}
-use Rattle.vf_rules.proofs.Arguments.{first, rest, refine_one, refined, Among, among_more, among_last, among_uses}
+use Rattle.vf_rules.proofs.Arguments.{first, rest, refined, Among, among_more, among_last, among_uses}
 
 -- ---- what is known of a name's term
 sort_met : (e : Environment) (v : Valuation) (o : Option Sort) (t : Term) → ((s : Sort) → o ≡ Some s → HasSort e (value_in e v t) s) → Meets e v (facts_of_sort o t)

@@ -1,41 +1,38 @@
 -- Producing an assertion adds to what a state stands for a part that satisfies it.
-use Rattle.std.proofs.Common.{◌≡◌, ◌≢◌, ℕ, ℤ, Bool, true, false, cond, not, List, [], ◌∷◌, ◌++◌, length, map, drop, Option, Some, None, refl, sym, ap, ap₂, subst, subst₂, ◌∙◌, ◌⊎◌, inl, inr, arith}
+use Rattle.std.proofs.Common.{◌≡◌, ℕ, ℤ, true, false, cond, not, List, [], ◌∷◌, length, map, Option, Some, None, refl, sym, ap, subst, subst₂, ◌∙◌, inl, inr, arith}
 use Rattle.std.specs.Prelude.{IsTrue, ◌≤ℤ◌, int_le}
 use Rattle.std.proofs.lemmas.Int.{ints}
 use Rattle.std.specs.Bool.{MatchBool}
-use Rattle.std.proofs.lemmas.Bool.{false≢true, cases_Bool}
+use Rattle.std.proofs.lemmas.Bool.{cases_Bool}
 use Rattle.std.specs.Cmp.Lexicographic.{bytes_decides}
 use Rattle.vf_base.specs.declared.int_type.IntType.{IntType}
-use Rattle.vf_base.specs.declared.int_type.IntType.TheVariants as types
 use Rattle.vf_tree.specs.Core.{Identity, Field, TypeTree, Void, Integer, PointerToVoid, PointerToInt, PointerToStruct, PointerToFunction, ProgramTree, Equal, NotEqual, LessEqual}
 use Rattle.vf_model.specs.Integers.{least, greatest, InRange}
 use Rattle.vf_model.specs.Values.{Dyadic, Value, Values, same_identity}
 use Rattle.vf_model.specs.Values as values
 use Rattle.vf_meaning.specs.Fractions.{whole, product, IsPositive}
 use Rattle.vf_meaning.specs.Ghost.{Sort, Name, GhostExpression, Null, Not, Compare, Number, Construct, Integers, Pointers, Truths}
-use Rattle.vf_meaning.specs.Valuations.{Valuation, is_true, is_same, in_row, listed, all_bound}
+use Rattle.vf_meaning.specs.Valuations.{Valuation, is_true, listed, all_bound}
 use Rattle.vf_meaning.specs.GhostValues.{compared, value_of, values_of}
-use Rattle.vf_meaning.specs.Names.{UsesHead}
 use Rattle.vf_meaning.specs.Assertions.{ShareTree, Head, BlockOf, Named, Family, Applied, PatternTree, Names, Assertion, Pure, Empty, Both, Choose, Switch, Cell, Chunk, Branches, no_branches, branch, Environment}
 use Rattle.vf_meaning.specs.Sorts.{HasSort, AreOfSorts}
 use Rattle.vf_meaning.specs.Parts.{Part, nothing, single, ◌⊕◌, IsSum}
 use Rattle.vf_meaning.specs.Parts as parts
 use Rattle.vf_meaning.specs.Chunks.{Wanted, Just, wanted, CellMeets, start_of, IsFieldCell}
-use Rattle.vf_meaning.specs.Satisfaction.{SatisfiesFamily, SatisfiesValue, SatisfiesHead, SatisfiesBy, SatisfiesBranch, MeansAt, SatisfiesAt}
+use Rattle.vf_meaning.specs.Satisfaction.{SatisfiesFamily, SatisfiesValue, SatisfiesHead, SatisfiesBranch, MeansAt, SatisfiesAt}
 use Rattle.vf_meaning.proofs.Values.{tells_values}
 use Rattle.vf_meaning.proofs.Fractions.{stays_positive}
 use Rattle.vf_meaning.proofs.Parts.{sums_turn, sums_regroup, nothing-⊕, in_left, in_right, single_here}
 use Rattle.vf_rules.specs.Laws.{Grows}
 use Rattle.vf_rules.specs.Terms.{Term, Store, term_of, head_of, IsBound, IsBoundHead}
 use Rattle.vf_rules.specs.Terms as terms
-use Rattle.vf_rules.specs.States.{Fact, Holds, OfSort, ChunkHead, CellOf, Of, SymbolicChunk, SymbolicState, meaning, value_in, IsMet, Meets, Infeasible, wanted_in, HeadMeans, ChunkMeans, StoreMeans, StandsFor, assuming, assuming_all, with_chunk}
-use Rattle.vf_rules.specs.States as states
-use Rattle.vf_rules.specs.Types.{IsPointer, is_bool, IsTruth, IsNumberIn, IsOfInteger, IsOfType, facts_of_integer, facts_of_type, type_of_field, IsTypedContent, IsTypedPart}
-use Rattle.vf_rules.specs.Produce.{known, NamesHaveSorts, IsCovered, Given, ProducePatterns, facts_of_cell, Produce, ProduceBranches, valued_arguments}
-use Rattle.vf_rules.proofs.Terms.{bound_value, term_value, grown_means}
+use Rattle.vf_rules.specs.States.{Fact, Holds, OfSort, CellOf, Of, SymbolicChunk, SymbolicState, meaning, value_in, IsMet, Meets, wanted_in, ChunkMeans, StoreMeans, StandsFor, assuming, assuming_all, with_chunk}
+use Rattle.vf_rules.specs.Types.{IsPointer, is_bool, IsTruth, IsNumberIn, IsOfInteger, IsOfType, facts_of_integer, facts_of_type, type_of_field, IsTypedPart}
+use Rattle.vf_rules.specs.Produce.{known, NamesHaveSorts, IsCovered, Given, facts_of_cell, Produce, ProduceBranches, valued_arguments}
+use Rattle.vf_rules.proofs.Terms.{bound_value, grown_means}
 use Rattle.vf_rules.proofs.Stands.{meets_more, assuming_stands, assuming_all_stands, with_chunk_stands}
-use Rattle.vf_rules.proofs.Arguments.{refined, refine_none, refined_none, head_valued, Among}
-use Rattle.vf_rules.proofs.Patterns.{Read, patterns_read, ShareRead, share_read}
+use Rattle.vf_rules.proofs.Arguments.{refined_none, head_valued}
+use Rattle.vf_rules.proofs.Patterns.{patterns_read, share_read}
 use Rattle.vf_rules.proofs.Names.{names_unbound, names_distinct, names_values, names_sorted, names_mean, else_same, asked_of_names, known_values, row_listed}
 
 -- a way on after an assertion, standing for a part
@@ -226,10 +223,10 @@ module _ (e : Environment) (prog : ProgramTree) (sorts : List Sort) (scale : Ter
       let argument = single_argument e two.under two.new _ (two.new_are ∙ refined_none _ []) in
       let share_is : value_in e two.under one.share ≡ values.Fraction fraction = two.before_are one.share (inl refl) ∙ one.share_is in
       let pointer_is : value_in e two.under (term_of s pointer) ≡ value_of (meaning e) w pointer =
-          two.before_are (term_of s pointer) (inr (inl refl)) ∙ bound_value e one.under s w pointer k.0 (grown_means e one.under s one.store w one.grows one.means) in
+      two.before_are (term_of s pointer) (inr (inl refl)) ∙ bound_value e one.under s w pointer k.0 (grown_means e one.under s one.store w one.grows one.means) in
       let positive = (stays_positive.1) c h.0 above (h.1).positive in
       let owned : IsFieldCell fraction (value_in e two.under (term_of s pointer)) f (wanted_in e two.under argument.0) q =
-          subst₂ (λ a b. IsFieldCell fraction a f b q) (sym pointer_is) (sym argument.2) h.2 in
+      subst₂ (λ a b. IsFieldCell fraction a f b q) (sym pointer_is) (sym argument.2) h.2 in
       let chunk : SymbolicChunk = record { share = one.share; head = CellOf f; arguments = Some (term_of s pointer) ∷ argument.0 ∷ [] } in
       let chunk_means : ChunkMeans e two.under chunk q = record { fraction = fraction; share = share_is; positive = positive; head = owned } in
       let facts = facts_of_cell (type_of_field prog f.structure f.index) (Some (term_of s pointer) ∷ argument.0 ∷ []) in
@@ -258,7 +255,7 @@ module _ (e : Environment) (prog : ProgramTree) (sorts : List Sort) (scale : Ter
       let share_is : value_in e two.under one.share ≡ values.Fraction fraction = two.before_are one.share (inl refl) ∙ one.share_is in
       let means_before = grown_means e two.under s two.store w (λ y t g. two.grows y t (one.grows y t g)) two.means in
       let owned = subst (λ us. SatisfiesHead (MeansAt e n) (meaning e) whole fraction (head_of s head) two.under us q) (sym two.new_are)
-          (head_at e n c fraction head two.under w s _ q k.0 means_before valued.1) in
+      (head_at e n c fraction head two.under w s _ q k.0 means_before valued.1) in
       let chunk : SymbolicChunk = record { share = one.share; head = Of (head_of s head); arguments = two.new } in
       record {
         under = two.under;
@@ -303,19 +300,19 @@ module _ (e : Environment) (prog : ProgramTree) (sorts : List Sort) (scale : Ter
     produced (Choose x a b) s st K k v w q p r stands means of_sorts scaled above h typed sums =
         elim (cases_Bool (is_true (value_of (meaning e) w x))) [
           | inl yes1 ↦
-            let met = true_value e v s w x k.0 means yes1 in
-            outer K v s w w r
-            (produced a s (assuming st (Holds (term_of s x))) (λ s2 st2. K s st2) (given e prog sorts scale locals names st (Holds (term_of s x)) (λ st1. Produce e prog sorts scale a s st1 (λ s2 st2. K s st2)) k.1 v p stands met)
-            v w q p r (assuming_stands e v st locals names p (Holds (term_of s x)) met stands) means of_sorts scaled above
-            (subst (λ t. MatchBool t (SatisfiesAt e n c a w q) (SatisfiesAt e n c b w q)) yes1 h) typed sums)
-            means (λ y t g. refl)
+              let met = true_value e v s w x k.0 means yes1 in
+              outer K v s w w r
+              (produced a s (assuming st (Holds (term_of s x))) (λ s2 st2. K s st2) (given e prog sorts scale locals names st (Holds (term_of s x)) (λ st1. Produce e prog sorts scale a s st1 (λ s2 st2. K s st2)) k.1 v p stands met)
+              v w q p r (assuming_stands e v st locals names p (Holds (term_of s x)) met stands) means of_sorts scaled above
+              (subst (λ t. MatchBool t (SatisfiesAt e n c a w q) (SatisfiesAt e n c b w q)) yes1 h) typed sums)
+              means (λ y t g. refl)
           | inr no1 ↦
-            let met = false_value e v s w x k.0 means no1 in
-            outer K v s w w r
-            (produced b s (assuming st (Holds (Not (term_of s x)))) (λ s2 st2. K s st2) (given e prog sorts scale locals names st (Holds (Not (term_of s x))) (λ st1. Produce e prog sorts scale b s st1 (λ s2 st2. K s st2)) k.2 v p stands met)
-            v w q p r (assuming_stands e v st locals names p (Holds (Not (term_of s x))) met stands) means of_sorts scaled above
-            (subst (λ t. MatchBool t (SatisfiesAt e n c a w q) (SatisfiesAt e n c b w q)) no1 h) typed sums)
-            means (λ y t g. refl)
+              let met = false_value e v s w x k.0 means no1 in
+              outer K v s w w r
+              (produced b s (assuming st (Holds (Not (term_of s x)))) (λ s2 st2. K s st2) (given e prog sorts scale locals names st (Holds (Not (term_of s x))) (λ st1. Produce e prog sorts scale b s st1 (λ s2 st2. K s st2)) k.2 v p stands met)
+              v w q p r (assuming_stands e v st locals names p (Holds (Not (term_of s x))) met stands) means of_sorts scaled above
+              (subst (λ t. MatchBool t (SatisfiesAt e n c a w q) (SatisfiesAt e n c b w q)) no1 h) typed sums)
+              means (λ y t g. refl)
         ]
     produced (Switch x branches) s st K k v w q p r stands means of_sorts scaled above h typed sums =
         branch_produced branches (term_of s x) s st K k.2 v w q p r (value_of (meaning e) w x) (bound_value e v s w x k.0 means) stands means of_sorts scaled above
@@ -332,20 +329,20 @@ module _ (e : Environment) (prog : ProgramTree) (sorts : List Sort) (scale : Ter
     branch_produced (branch f xs a rest) t s st K k v w q p r (values.Constructed d us) is stands means of_sorts scaled above covered h typed sums =
         elim (cases_Bool (same_identity f d)) [
           | inl yes1 ↦
-            let fitting = subst (λ z. MatchBool z (NamesHaveSorts e sorts xs us) (IsCovered e sorts rest (values.Constructed d us))) yes1 covered in
-            let body = subst (λ z. MatchBool z (SatisfiesAt e n c a (all_bound w xs us) q) (SatisfiesBranch (MeansAt e n) (meaning e) c rest (values.Constructed d us) w q)) yes1 h in
-            let w' = all_bound w xs us in
-            let apart = names_unbound e prog sorts scale _ 0 xs s st (Some t ∷ []) k.0 in
-            let sorted = names_sorted e sorts w xs us of_sorts fitting in
-            let one = patterns_read e prog sorts scale _ locals names w' p sorted 0 (map (λ x. Names x) xs) s st (Some t ∷ []) k.0 v [] stands (names_mean e v s w xs us apart means) in
-            let new_are = one.new_are ∙ refined_none _ [] ∙ asked_of_names e w' xs ∙ ap (map (λ z. Just z)) (names_values e sorts w xs us (names_distinct e prog sorts scale _ 0 xs s st (Some t ∷ []) k.0) fitting) in
-            let met = constructed_met one.under t f d one.new us yes1 (one.before_are t (inl refl) ∙ is) new_are in
-            let fact = Holds (Compare Equal t (Construct f (terms.in_row (known one.new)))) in
-            let two = produced a one.store (assuming one.state fact) (λ s3 st3. K s st3) (given e prog sorts scale locals names one.state fact (λ st2. Produce e prog sorts scale a one.store st2 (λ s3 st3. K s st3)) one.holds one.under p one.stands met)
-                one.under w' q p r (assuming_stands e one.under one.state locals names p fact met one.stands) one.means sorted (one.scale_is ∙ scaled) above body typed sums in
-            outer K v s w w' r
-            (record { under = two.under; store = two.store; state = two.state; holds = two.holds; stands = two.stands; means = two.means; grows = λ y z g. two.grows y z (one.grows y z g); scale_is = two.scale_is ∙ one.scale_is })
-            means (λ y z g. else_same w xs us y (apart y z g))
+              let fitting = subst (λ z. MatchBool z (NamesHaveSorts e sorts xs us) (IsCovered e sorts rest (values.Constructed d us))) yes1 covered in
+              let body = subst (λ z. MatchBool z (SatisfiesAt e n c a (all_bound w xs us) q) (SatisfiesBranch (MeansAt e n) (meaning e) c rest (values.Constructed d us) w q)) yes1 h in
+              let w' = all_bound w xs us in
+              let apart = names_unbound e prog sorts scale _ 0 xs s st (Some t ∷ []) k.0 in
+              let sorted = names_sorted e sorts w xs us of_sorts fitting in
+              let one = patterns_read e prog sorts scale _ locals names w' p sorted 0 (map (λ x. Names x) xs) s st (Some t ∷ []) k.0 v [] stands (names_mean e v s w xs us apart means) in
+              let new_are = one.new_are ∙ refined_none _ [] ∙ asked_of_names e w' xs ∙ ap (map (λ z. Just z)) (names_values e sorts w xs us (names_distinct e prog sorts scale _ 0 xs s st (Some t ∷ []) k.0) fitting) in
+              let met = constructed_met one.under t f d one.new us yes1 (one.before_are t (inl refl) ∙ is) new_are in
+              let fact = Holds (Compare Equal t (Construct f (terms.in_row (known one.new)))) in
+              let two = produced a one.store (assuming one.state fact) (λ s3 st3. K s st3) (given e prog sorts scale locals names one.state fact (λ st2. Produce e prog sorts scale a one.store st2 (λ s3 st3. K s st3)) one.holds one.under p one.stands met)
+              one.under w' q p r (assuming_stands e one.under one.state locals names p fact met one.stands) one.means sorted (one.scale_is ∙ scaled) above body typed sums in
+              outer K v s w w' r
+              (record { under = two.under; store = two.store; state = two.state; holds = two.holds; stands = two.stands; means = two.means; grows = λ y z g. two.grows y z (one.grows y z g); scale_is = two.scale_is ∙ one.scale_is })
+              means (λ y z g. else_same w xs us y (apart y z g))
           | inr no1 ↦ branch_produced rest t s st K k.1 v w q p r (values.Constructed d us) is stands means of_sorts scaled above
               (subst (λ z. MatchBool z (NamesHaveSorts e sorts xs us) (IsCovered e sorts rest (values.Constructed d us))) no1 covered)
               (subst (λ z. MatchBool z (SatisfiesAt e n c a (all_bound w xs us) q) (SatisfiesBranch (MeansAt e n) (meaning e) c rest (values.Constructed d us) w q)) no1 h) typed sums

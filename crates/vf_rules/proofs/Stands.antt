@@ -1,20 +1,18 @@
 -- What a state stands for: under another value for a new symbol, with one more fact, and with one more chunk.
-use Rattle.std.proofs.Common.{◌≡◌, ℕ, List, [], ◌∷◌, ◌++◌, map, Option, Some, None, refl, sym, ap, ap₂, subst, subst₂, ◌∙◌, ◌⊎◌, inl, inr}
+use Rattle.std.proofs.Common.{◌≡◌, ℕ, List, [], ◌∷◌, ◌++◌, map, Option, Some, None, refl, sym, ap, ap₂, subst, subst₂, ◌∙◌, inl, inr}
 use Rattle.std.specs.Prelude.{IsTrue}
 use Rattle.vf_model.specs.Values.{Dyadic, Value}
 use Rattle.vf_meaning.specs.Fractions.{whole}
 use Rattle.vf_meaning.specs.Ghost.{Numbered}
 use Rattle.vf_meaning.specs.Valuations.{Valuation, is_true, bound}
-use Rattle.vf_meaning.specs.GhostValues.{value_of}
-use Rattle.vf_meaning.specs.Names.{Uses}
 use Rattle.vf_meaning.specs.Assertions.{Head, BlockOf, Named, Family, Applied, Environment}
 use Rattle.vf_meaning.specs.Sorts.{HasSort}
 use Rattle.vf_meaning.specs.Parts.{Part, nothing, ◌⊕◌, IsSum}
 use Rattle.vf_meaning.specs.Chunks.{Wanted, Just, IsFieldCell}
 use Rattle.vf_meaning.specs.Satisfaction.{SatisfiesFamily, SatisfiesValue, SatisfiesHead, MeansAt}
 use Rattle.vf_meaning.proofs.Parts.{sums_turn, sums_regroup, nothing-⊕, nothing_is_neutral}
-use Rattle.vf_rules.specs.Terms.{Term, Store}
-use Rattle.vf_rules.specs.States.{Fact, Holds, OfSort, ChunkHead, CellOf, Of, SymbolicChunk, SymbolicState, meaning, value_in, IsMet, Meets, wanted_in, HeadMeans, ChunkMeans, ChunksMean, LocalsMean, StoreMeans, StandsFor, assuming, assuming_all, with_chunk}
+use Rattle.vf_rules.specs.Terms.{Term}
+use Rattle.vf_rules.specs.States.{Fact, Holds, OfSort, ChunkHead, CellOf, Of, SymbolicChunk, SymbolicState, meaning, IsMet, Meets, wanted_in, HeadMeans, ChunkMeans, ChunksMean, LocalsMean, StandsFor, assuming, assuming_all, with_chunk}
 use Rattle.vf_rules.specs.Fresh.{UsesFact, UsesChunkHead, UsesArguments, UsesChunk, UsesChunks, UsesFacts, IsFresh}
 use Rattle.vf_rules.proofs.Terms.{fresh_value, fresh_store}
 

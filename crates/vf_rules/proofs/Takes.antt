@@ -1,28 +1,26 @@
 -- Taking from a heap, joining and renaming chunks: what a state stands for is parted, and stays.
-use Rattle.std.proofs.Common.{◌≡◌, ℕ, suc, Bool, true, false, List, [], ◌∷◌, ◌++◌, map, Option, Some, None, pos, refl, sym, ap, ap₂, subst, subst₂, ◌∙◌, ◌⊎◌, inl, inr}
-use Rattle.std.specs.Prelude.{IsTrue}
+use Rattle.std.proofs.Common.{◌≡◌, ℕ, List, [], ◌∷◌, ◌++◌, map, Option, Some, None, pos, refl, sym, ap, subst, subst₂, ◌∙◌}
 use Rattle.std.proofs.lemmas.List.{map-append}
-use Rattle.vf_tree.specs.Core.{Identity, Field, Equal}
+use Rattle.vf_tree.specs.Core.{Identity, Field}
 use Rattle.vf_model.specs.Values.{Dyadic, Value, Values}
 use Rattle.vf_model.specs.Values as values
 use Rattle.vf_meaning.specs.Fractions.{whole, sum, IsPositive}
-use Rattle.vf_meaning.specs.Ghost.{Compare, PredicateValue}
+use Rattle.vf_meaning.specs.Ghost.{PredicateValue}
 use Rattle.vf_meaning.specs.Valuations.{Valuation, listed}
-use Rattle.vf_meaning.specs.GhostValues.{Interpretation, value_of, values_of}
-use Rattle.vf_meaning.specs.Assertions.{Head, BlockOf, Named, Family, Applied, BodyName, Environment}
+use Rattle.vf_meaning.specs.GhostValues.{values_of}
+use Rattle.vf_meaning.specs.Assertions.{Head, BlockOf, Named, Family, Applied, Environment}
 use Rattle.vf_meaning.specs.Parts.{Part, Content, single, ◌⊕◌, IsSum}
 use Rattle.vf_meaning.specs.Parts as parts
-use Rattle.vf_meaning.specs.Chunks.{Wanted, Just, AllMeet, Primitive, Mutexes, HeldMutexes, Handles, IntBlocks, IntCells, Others, primitive, start_of, CellMeets, IsFieldCell, IsStructBlock, IsIntBlock, IsMutex, IsHeldMutex, IsHandle}
-use Rattle.vf_meaning.specs.Chunks as chunks
+use Rattle.vf_meaning.specs.Chunks.{Wanted, Just, AllMeet, Primitive, Mutexes, HeldMutexes, Handles, IntBlocks, IntCells, Others, primitive, CellMeets, IsFieldCell, IsStructBlock, IsIntBlock, IsMutex, IsHeldMutex, IsHandle}
 use Rattle.vf_meaning.specs.Satisfaction.{SatisfiesPrimitive, SatisfiesNamed, SatisfiesValue, SatisfiesHead, MeansAt}
-use Rattle.vf_meaning.specs.SatisfactionLaws.{IsOfOneLocation, HeadsOneLocation}
+use Rattle.vf_meaning.specs.SatisfactionLaws.{IsOfOneLocation}
 use Rattle.vf_meaning.proofs.Values.{tells_values}
 use Rattle.vf_meaning.proofs.Fractions.{stays_positive}
 use Rattle.vf_meaning.proofs.Parts.{sums_turn, sums_regroup}
 use Rattle.vf_meaning.proofs.Satisfaction.{Two, two_map, two_single, two_means, two_head}
 use Rattle.vf_meaning.proofs.Joins.{same_content, one_location, same_start}
 use Rattle.vf_rules.specs.Terms.{Term, in_row}
-use Rattle.vf_rules.specs.States.{Fact, Holds, ChunkHead, CellOf, Of, SymbolicChunk, SymbolicState, meaning, value_in, IsMet, Meets, wanted_in, HeadMeans, ChunkMeans, ChunksMean, StandsFor, Entails, assuming_all, with_chunks}
+use Rattle.vf_rules.specs.States.{Fact, ChunkHead, CellOf, Of, SymbolicChunk, SymbolicState, meaning, value_in, IsMet, Meets, wanted_in, HeadMeans, ChunkMeans, ChunksMean, StandsFor, with_chunks}
 use Rattle.vf_rules.specs.Take.{same, with_share, Takes, takes_all, takes_part, takes_later, Removes, removes_here, removes_later, IsPrimitive, joined, equalities, Joins, Merges, merges_here, merges_later, all_known, Renames, Replaces, replaces_here, replaces_later, Change, learns, merges, names_value, makes_value, Changes, no_change, and_change}
 use Rattle.vf_rules.proofs.Stands.{assuming_all_stands}
 
@@ -173,8 +171,8 @@ module _ (e : Environment) (v : Valuation) (x y : Dyadic) (a b : Value) (ts us :
       let own = at_one (parts.HeldAt h.block) (parts.HeldAt k.block) (parts.HeldOf k.invariant k.holder k.given) y q (ap parts.HeldAt place) k.owns in
       let is = held_same h.invariant k.invariant h.holder k.holder h.given k.given (same_content (parts.HeldAt h.block) (parts.HeldOf h.invariant h.holder h.given) (parts.HeldOf k.invariant k.holder k.given) x y p q r h.owns own sums above positive) in
       let m = meets_joined e v ts us (h.invariant ∷ values.Number (pos h.holder) ∷ values.Fraction h.given ∷ []) (h.meet).1
-          (subst (λ z. AllMeet (map (wanted_in e v) us) (z ∷ values.Number (pos h.holder) ∷ values.Fraction h.given ∷ [])) is.0
-          (subst₂ (λ z f. AllMeet (map (wanted_in e v) us) (k.invariant ∷ values.Number (pos z) ∷ values.Fraction f ∷ [])) is.1 is.2 (k.meet).1)) in
+      (subst (λ z. AllMeet (map (wanted_in e v) us) (z ∷ values.Number (pos h.holder) ∷ values.Fraction h.given ∷ [])) is.0
+      (subst₂ (λ z f. AllMeet (map (wanted_in e v) us) (k.invariant ∷ values.Number (pos z) ∷ values.Fraction f ∷ [])) is.1 is.2 (k.meet).1)) in
       (m.1, record { block = h.block; invariant = h.invariant; holder = h.holder; given = h.given; meet = ((h.meet).0, m.0); owns = one_location (parts.HeldAt h.block) (parts.HeldAt k.block) (parts.HeldOf h.invariant h.holder h.given) (parts.HeldOf k.invariant k.holder k.given) x y p q r (ap parts.HeldAt place) h.owns k.owns sums above positive })
 
   handles_joined : IsHandle x first_asked p → IsHandle y second_asked q → Meets e v (equalities ts us) × IsHandle (sum x y) both_asked r
@@ -183,7 +181,7 @@ module _ (e : Environment) (v : Valuation) (x y : Dyadic) (a b : Value) (ts us :
       let own = at_one (parts.HandleAt h.block) (parts.HandleAt k.block) (parts.HandleOf k.run k.argument k.info) y q (ap parts.HandleAt place) k.owns in
       let is = handle_same h.run k.run h.argument k.argument h.info k.info (same_content (parts.HandleAt h.block) (parts.HandleOf h.run h.argument h.info) (parts.HandleOf k.run k.argument k.info) x y p q r h.owns own sums above positive) in
       let m = meets_joined e v ts us (h.run ∷ h.argument ∷ h.info ∷ []) (h.meet).1
-          (subst (λ z. AllMeet (map (wanted_in e v) us) (z ∷ h.argument ∷ h.info ∷ [])) is.0 (subst₂ (λ z f. AllMeet (map (wanted_in e v) us) (k.run ∷ z ∷ f ∷ [])) is.1 is.2 (k.meet).1)) in
+      (subst (λ z. AllMeet (map (wanted_in e v) us) (z ∷ h.argument ∷ h.info ∷ [])) is.0 (subst₂ (λ z f. AllMeet (map (wanted_in e v) us) (k.run ∷ z ∷ f ∷ [])) is.1 is.2 (k.meet).1)) in
       (m.1, record { block = h.block; run = h.run; argument = h.argument; info = h.info; meet = ((h.meet).0, m.0); owns = one_location (parts.HandleAt h.block) (parts.HandleAt k.block) (parts.HandleOf h.run h.argument h.info) (parts.HandleOf k.run k.argument k.info) x y p q r (ap parts.HandleAt place) h.owns k.owns sums above positive })
 
   primitives_joined : (n : ℕ) (f : Identity) (k : Primitive) → IsOfOneLocation k → SatisfiesPrimitive (MeansAt e n) k x f first_asked p → SatisfiesPrimitive (MeansAt e n) k y f second_asked q
@@ -245,7 +243,7 @@ heads_joined e v x y (Of (BlockOf g)) s t ts us p q r o above positive one sums 
     let j = blocks_joined e v x y (value_in e v s) (value_in e v t) ts us p q r above positive one sums g h.1 k.1 in (j.0, (h.0, j.1))
 heads_joined e v x y (Of (Named f)) s t ts us p q r o above positive one sums h k =
     let j = primitives_joined e v x y (value_in e v s) (value_in e v t) ts us p q r above positive one sums h.0 f (primitive f) o h.1
-        (primitive_depth e k.0 h.0 (primitive f) y f _ q o k.1) in (j.0, (h.0, j.1))
+    (primitive_depth e k.0 h.0 (primitive f) y f _ q o k.1) in (j.0, (h.0, j.1))
 heads_joined e v x y (Of (Family f g)) s t ts us p q r o above positive one sums h k = absurd o
 heads_joined e v x y (Of (Applied g)) s t ts us p q r o above positive one sums h k = absurd o
 
@@ -258,7 +256,7 @@ joins_mean e v path c d both facts j m p q r h k s =
     let second = subst₂ (λ z w. HeadMeans e v y z w q) j.one_head j.further k.head in
     let r2 = heads_joined e v x y c.head j.first j.second j.others j.more p q r j.primitive h.positive k.positive (same_value e v j.first j.second ((j.one_place).by v m)) s first second in
     let chunk : ChunkMeans e v (record { share = j.total; head = c.head; arguments = Some j.first ∷ joined j.others j.more }) r =
-        record { fraction = sum x y; share = (j.sums).by v m x y h.share k.share; positive = (stays_positive.0) x y h.positive; head = r2.1 } in
+    record { fraction = sum x y; share = (j.sums).by v m x y h.share k.share; positive = (stays_positive.0) x y h.positive; head = r2.1 } in
     (subst (λ z. Meets e v z) (sym j.facts_are) r2.0, subst (λ z. ChunkMeans e v z r) (sym j.both_is) chunk)
 
 merges_mean : (e : Environment) (v : Valuation) (path facts : List Fact) {cs ds : List SymbolicChunk} → Merges e path facts cs ds → Meets e v path → (p : Part) → ChunksMean e v cs p → Meets e v facts × ChunksMean e v ds p

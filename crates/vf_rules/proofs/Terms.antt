@@ -1,19 +1,18 @@
 -- The values of terms: of an expression in which terms stand for the names, and under a valuation with another value for a new symbol.
-use Rattle.std.proofs.Common.{◌≡◌, ◌≢◌, ℕ, Bool, true, false, cond, not, ◌&&◌, ◌||◌, List, [], ◌∷◌, Option, Some, None, refl, sym, ap, ap₂, subst, ◌∙◌, ◌⊎◌, inl, inr, neg_ℤ, unwrap_or}
-use Rattle.std.proofs.lemmas.Bool.{false≢true, cases_Bool}
+use Rattle.std.proofs.Common.{◌≡◌, ◌≢◌, ℕ, cond, not, ◌&&◌, ◌||◌, Some, None, refl, sym, ap, ap₂, subst, ◌∙◌, inl, inr, neg_ℤ, unwrap_or}
+use Rattle.std.proofs.lemmas.Bool.{cases_Bool}
 use Rattle.vf_model.specs.Values.{Dyadic, Value, Values, more, number_of}
 use Rattle.vf_model.specs.Values as values
 use Rattle.vf_meaning.specs.Fractions.{product}
 use Rattle.vf_meaning.specs.Ghost.{Name, Numbered, same_name, GhostExpression, GhostExpressions, no_expressions, and_expression, Variable, Number, Truth, Fraction, Null, Function, Construct, Apply, PredicateValue, Claims, Negate, Arithmetic, PointerSum, Share, Compare, Not, And, Or, Choose}
 use Rattle.vf_meaning.specs.Valuations.{Valuation, is_true, further, bound, fraction_in}
 use Rattle.vf_meaning.specs.GhostValues.{Interpretation, computed, compared, shared, claimed, value_of, values_of}
-use Rattle.vf_meaning.specs.Names.{Uses, UsesAny, UsesHead}
-use Rattle.vf_meaning.specs.Assertions.{Environment, Times, Taken}
-use Rattle.vf_meaning.specs.Chunks.{times_names}
+use Rattle.vf_meaning.specs.Names.{Uses}
+use Rattle.vf_meaning.specs.Assertions.{Environment}
 use Rattle.vf_meaning.proofs.Values.{agreed, tells_names}
-use Rattle.vf_rules.specs.Terms.{Term, Store, term_named, term_of, terms_of, stored, times_terms, IsBound, AreBound}
+use Rattle.vf_rules.specs.Terms.{Term, Store, term_named, term_of, terms_of, stored, IsBound}
 use Rattle.vf_rules.specs.States.{meaning, value_in, StoreMeans}
-use Rattle.vf_rules.specs.Fresh.{symbol, IsFreshIn}
+use Rattle.vf_rules.specs.Fresh.{IsFreshIn}
 use Rattle.vf_rules.specs.Laws.{Grows}
 
 -- ---- the value of an expression with terms for its names

@@ -1,5 +1,4 @@
 -- The laws of the rules for assertions.
-use Rattle.std.proofs.Common.{◌≡◌}
 use Rattle.vf_rules.specs.Laws.{IsAmong, ProducingAdds, ConsumingTakes, JoiningKeeps, ChangesKeep}
 use Rattle.vf_rules.proofs.Produces.{produced}
 use Rattle.vf_rules.proofs.Takes.{joins_mean, changes_stand}

@@ -1,10 +1,10 @@
 -- Consuming an assertion: what it says is taken out of a state, part by part, from left to right.
-use Rattle.std.specs.Prelude.{◌≡◌, ◌⊎◌, List, [], ◌∷◌, ◌++◌, map, drop, Option, Some, None}
+use Rattle.std.specs.Prelude.{◌≡◌, List, [], ◌∷◌, map, drop, Option, Some, None}
 use Rattle.vf_tree.specs.Core.{ProgramTree, Equal}
-use Rattle.vf_meaning.specs.Ghost.{Sort, Fractions, Name, Not, Compare, Construct, Fraction, Share}
+use Rattle.vf_meaning.specs.Ghost.{Sort, Not, Compare, Construct, Fraction, Share}
 use Rattle.vf_meaning.specs.Assertions.{ShareTree, Times, Taken, PatternTree, Is, Names, Wild, Head, BlockOf, Named, Family, Applied, Assertion, Pure, Empty, Both, Choose, Switch, Cell, Chunk, Branches, no_branches, branch, Environment}
 use Rattle.vf_rules.specs.Terms.{Term, Store, term_of, stored, in_row, times_terms, head_of, IsBound, IsBoundHead, AreBound}
-use Rattle.vf_rules.specs.States.{Fact, Holds, OfSort, ChunkHead, CellOf, Of, SymbolicChunk, SymbolicState, Entails, assuming, with_chunks}
+use Rattle.vf_rules.specs.States.{Fact, Holds, ChunkHead, CellOf, Of, SymbolicChunk, SymbolicState, Entails, with_chunks}
 use Rattle.vf_rules.specs.Produce.{known, facts_of_name, Covers, Given, ProducePatterns}
 use Rattle.vf_rules.specs.Take.{same, IsQuotient, Takes, Removes, Changes}
 

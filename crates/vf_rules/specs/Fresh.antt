@@ -1,5 +1,5 @@
 -- Symbols that are new to a state, and so may stand for any value.
-use Rattle.std.specs.Prelude.{◌≡◌, ℕ, List, [], ◌∷◌, ◌++◌, Option, Some, None, ◌⊎◌}
+use Rattle.std.specs.Prelude.{◌≡◌, ℕ, List, [], ◌∷◌, Option, Some, None, ◌⊎◌}
 use Rattle.vf_meaning.specs.Ghost.{Name, Numbered, Variable}
 use Rattle.vf_meaning.specs.Names.{Uses, UsesHead}
 use Rattle.vf_rules.specs.Terms.{Term, Store}

@@ -1,19 +1,18 @@
 -- Opening and closing predicates: a chunk for its body, and a body for its chunk.
-use Rattle.std.specs.Prelude.{◌≡◌, ℕ, List, [], ◌∷◌, length, slice_get, Option, Some, None}
+use Rattle.std.specs.Prelude.{◌≡◌, ℕ, List, length, slice_get, Some, None}
 use Rattle.vf_tree.specs.Core.{Identity, ProgramTree}
 use Rattle.vf_model.specs.Values.{Dyadic, Value}
 use Rattle.vf_model.specs.Values as values
 use Rattle.vf_meaning.specs.Fractions.{IsPositive}
-use Rattle.vf_meaning.specs.Ghost.{Sort, Name, Numbered, Function}
+use Rattle.vf_meaning.specs.Ghost.{Sort, Numbered, Function}
 use Rattle.vf_meaning.specs.Valuations.{Valuation}
 use Rattle.vf_meaning.specs.Assertions.{Head, Named, Family, BodyName, Plain, Instance, BodyTree, Environment}
 use Rattle.vf_meaning.specs.Sorts.{HasSort}
-use Rattle.vf_meaning.specs.Parts.{Part}
 use Rattle.vf_meaning.specs.Chunks.{primitive, Others}
 use Rattle.vf_rules.specs.Terms.{Term, Store}
-use Rattle.vf_rules.specs.States.{Fact, OfSort, Of, SymbolicChunk, SymbolicState, value_in, Meets, StandsFor, Entails, with_chunk, with_chunks}
+use Rattle.vf_rules.specs.States.{Fact, OfSort, Of, SymbolicChunk, SymbolicState, value_in, Meets, Entails, with_chunk, with_chunks}
 use Rattle.vf_rules.specs.Produce.{Produce}
-use Rattle.vf_rules.specs.Take.{same, with_share, Takes, all_known}
+use Rattle.vf_rules.specs.Take.{same, Takes, all_known}
 use Rattle.vf_rules.specs.Consume.{Consume}
 use Rattle.vf_rules.specs.Laws.{Outcome, IsAmong}
 

@@ -1,7 +1,7 @@
 -- Producing an assertion: what it says is added to a state, name by name and part by part, from left to right.
-use Rattle.std.specs.Prelude.{◌≡◌, ◌⊎◌, ℕ, zero, suc, List, [], ◌∷◌, ◌++◌, ◌-◌, Bool, true, false, drop, map, length, slice_get, Option, Some, None}
+use Rattle.std.specs.Prelude.{◌≡◌, ◌⊎◌, ℕ, zero, suc, List, [], ◌∷◌, ◌++◌, ◌-◌, drop, map, length, slice_get, Option, Some, None}
 use Rattle.std.specs.Bool.{MatchBool}
-use Rattle.vf_tree.specs.Core.{Identity, Field, TypeTree, ProgramTree, Equal, NotEqual}
+use Rattle.vf_tree.specs.Core.{TypeTree, ProgramTree, Equal, NotEqual}
 use Rattle.vf_model.specs.Values.{Value, Values, same_identity}
 use Rattle.vf_model.specs.Values as values
 use Rattle.vf_meaning.specs.Ghost.{Sort, Fractions, Name, Numbered, Null, Not, Compare, Construct, Fraction, Share}

@@ -6,7 +6,7 @@ use Rattle.vf_model.specs.Values as values
 use Rattle.vf_meaning.specs.Fractions.{sum, product, IsPositive}
 use Rattle.vf_meaning.specs.Ghost.{Compare, PredicateValue}
 use Rattle.vf_meaning.specs.Valuations.{Valuation}
-use Rattle.vf_meaning.specs.Assertions.{Head, BlockOf, Named, Family, Applied, Environment}
+use Rattle.vf_meaning.specs.Assertions.{Named, Applied, Environment}
 use Rattle.vf_meaning.specs.SatisfactionLaws.{HeadsOneLocation}
 use Rattle.vf_rules.specs.Terms.{Term, in_row}
 use Rattle.vf_rules.specs.States.{Fact, Holds, ChunkHead, CellOf, Of, SymbolicChunk, SymbolicState, value_in, Meets, Entails, assuming_all, with_chunks}

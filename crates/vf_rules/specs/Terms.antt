@@ -1,5 +1,5 @@
 -- Terms: ghost expressions whose names are symbols. A store gives each name of an assertion its term.
-use Rattle.std.specs.Prelude.{◌≡◌, cond, List, [], ◌∷◌, Option, Some, None, unwrap_or}
+use Rattle.std.specs.Prelude.{◌≡◌, cond, List, [], ◌∷◌, Option, Some, unwrap_or}
 use Rattle.vf_meaning.specs.Ghost.{Name, same_name, GhostExpression, GhostExpressions, no_expressions, and_expression, Variable, Number, Truth, Fraction, Null, Function, Construct, Apply, PredicateValue, Claims, Negate, Arithmetic, PointerSum, Share, Compare, Not, And, Or, Choose}
 use Rattle.vf_meaning.specs.Names.{Uses, UsesHead}
 use Rattle.vf_meaning.specs.Assertions.{Head, BlockOf, Named, Family, Applied}

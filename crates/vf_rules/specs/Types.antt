@@ -1,10 +1,10 @@
 -- Values of the types of C, the facts that say of a term that it has one, and parts whose contents have their types.
-use Rattle.std.specs.Prelude.{◌≡◌, ℕ, ℤ, Bool, true, false, cond, List, [], ◌∷◌, slice_get, Option, Some, None}
+use Rattle.std.specs.Prelude.{◌≡◌, ℕ, Bool, true, false, cond, List, [], ◌∷◌, slice_get, Option, Some, None}
 use Rattle.std.specs.Bool.{MatchBool}
 use Rattle.std.specs.List.{find}
 use Rattle.vf_base.specs.declared.int_type.IntType.{IntType}
 use Rattle.vf_base.specs.declared.int_type.IntType.TheVariants as types
-use Rattle.vf_tree.specs.Core.{Identity, Field, TypeTree, Void, Integer, PointerToVoid, PointerToInt, PointerToStruct, PointerToFunction, StructTree, ProgramTree, LessEqual}
+use Rattle.vf_tree.specs.Core.{Identity, TypeTree, Void, Integer, PointerToVoid, PointerToInt, PointerToStruct, PointerToFunction, StructTree, ProgramTree, LessEqual}
 use Rattle.vf_model.specs.Values.{Value, same_identity}
 use Rattle.vf_model.specs.Values as values
 use Rattle.vf_model.specs.Integers.{least, greatest, InRange}
@@ -13,7 +13,7 @@ use Rattle.vf_meaning.specs.Ghost.{Sort, Truths, Integers, Pointers, Predicates,
 use Rattle.vf_meaning.specs.Ghost as ghost
 use Rattle.vf_meaning.specs.Assertions.{Environment}
 use Rattle.vf_meaning.specs.Sorts.{HasSort}
-use Rattle.vf_meaning.specs.Parts.{Location, FieldCell, IndexCell, StructBlock, IntBlock, MutexAt, HeldAt, HandleAt, Content, CellOf, Bare, LengthOf, MutexOf, HeldOf, HandleOf, Part}
+use Rattle.vf_meaning.specs.Parts.{Location, FieldCell, IndexCell, MutexAt, HeldAt, HandleAt, Content, CellOf, MutexOf, HeldOf, HandleOf, Part}
 use Rattle.vf_rules.specs.Terms.{Term}
 use Rattle.vf_rules.specs.States.{Fact, Holds, OfSort}
 

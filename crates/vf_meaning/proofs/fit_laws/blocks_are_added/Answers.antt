@@ -1,0 +1,5 @@
+use Rattle.vf_meaning.proofs.FitSteps.{blocks_are_added}
+use Rattle.vf_meaning.proofs.fit_laws.blocks_are_added.Goals as goal
+
+pub returns : goal.returns
+returns c = blocks_are_added
