@@ -46,17 +46,18 @@ block_chunk g pointer = record { share = all_of_it; head = Of (BlockOf g); argum
 abbrev pub field_at : Identity → ℕ → Field
 field_at g i = record { structure = g; index = i }
 
--- the cells of a new struct, of unknown content, and its block
-abbrev pub new_chunks : ProgramTree → Identity → Term → List SymbolicChunk
-new_chunks p g t = map (λ i. cell_chunk (field_at g i) t None) (range_with_len 0 (field_count p g)) ++ block_chunk g t ∷ []
+-- n cells of a new struct from a field on, of unknown content, and then its block
+abbrev pub new_chunks : Identity → Term → ℕ → ℕ → List SymbolicChunk
+new_chunks g t i zero = block_chunk g t ∷ []
+new_chunks g t i (suc n) = cell_chunk (field_at g i) t None ∷ new_chunks g t (suc i) n
 
--- the whole of each cell of a struct, and of its block, is taken, one after the other
-abbrev pub TakesFields : Environment → List Fact → Identity → Term → List ℕ → List SymbolicChunk → List SymbolicChunk → Type 0
-TakesFields e path g t [] cs ds =
+-- the whole of each of n cells of a struct from a field on, and then of its block, is taken, one after the other
+abbrev pub TakesFields : Environment → List Fact → Identity → Term → ℕ → ℕ → List SymbolicChunk → List SymbolicChunk → Type 0
+TakesFields e path g t i zero cs ds =
     (c : SymbolicChunk) × (u : Term) × Takes e path all_of_it c cs ds × (c.head ≡ Of (BlockOf g)) × (c.arguments ≡ Some u ∷ []) × Entails e path (same t u)
-TakesFields e path g t (i ∷ rest) cs ds =
+TakesFields e path g t i (suc n) cs ds =
     (c : SymbolicChunk) × (mid : List SymbolicChunk) × (u : Term) × (content : Option Term) × Takes e path all_of_it c cs mid
-    × (c.head ≡ CellOf (field_at g i)) × (c.arguments ≡ Some u ∷ content ∷ []) × Entails e path (same t u) × TakesFields e path g t rest mid ds
+    × (c.head ≡ CellOf (field_at g i)) × (c.arguments ≡ Some u ∷ content ∷ []) × Entails e path (same t u) × TakesFields e path g t (suc i) n mid ds
 
 -- facts of several types, of terms one by one
 abbrev pub facts_of_types : List TypeTree → List Term → List Fact
@@ -101,15 +102,15 @@ pub data Accepts (e : Environment) (p : ProgramTree) (f : FunctionTree) (k : Con
       → Accepts e p f k next (with_chunks st (others ++ cell_chunk field t (Some w) ∷ [])) → Accepts e p f k n st
   do_allocate : {n : ℕ} {st : SymbolicState} (x : ℕ) (g : Identity) (next y : ℕ) → slice_get f.steps n ≡ Some (Allocate x g next) → IsFresh y st
       → Accepts e p f k next (with_local st x Null)
-      → Accepts e p f k next (with_local (assuming_all (with_chunks st (st.chunks ++ new_chunks p g (symbol y))) (OfSort (symbol y) Pointers ∷ Holds (Compare NotEqual (symbol y) Null) ∷ [])) x (symbol y))
+      → Accepts e p f k next (with_local (assuming_all (with_chunks st (st.chunks ++ new_chunks g (symbol y) 0 (field_count p g))) (OfSort (symbol y) Pointers ∷ Holds (Compare NotEqual (symbol y) Null) ∷ [])) x (symbol y))
       → Accepts e p f k n st
   do_free_null : {n : ℕ} {st : SymbolicState} (a : ExpressionTree) (g : Identity) (place : Place) (next : ℕ) (t : Term) → slice_get f.steps n ≡ Some (Free a g place next)
       → Evaluates e st.path st.locals a t → Entails e st.path (same t Null) → Accepts e p f k next st → Accepts e p f k n st
   do_free : {n : ℕ} {st : SymbolicState} (a : ExpressionTree) (g : Identity) (place : Place) (next : ℕ) (t : Term) (left : List SymbolicChunk) → slice_get f.steps n ≡ Some (Free a g place next)
-      → Evaluates e st.path st.locals a t → TakesFields e st.path g t (range_with_len 0 (field_count p g)) st.chunks left
+      → Evaluates e st.path st.locals a t → TakesFields e st.path g t 0 (field_count p g) st.chunks left
       → Accepts e p f k next (with_chunks st left) → Accepts e p f k n st
   do_call : {n : ℕ} {st : SymbolicState} (target : Option ℕ) (g : Identity) (operands : List ExpressionTree) (place : Place) (next number : ℕ) (callee : FunctionTree) (contract : ContractTree) (ts : List Term) (outs : List Outcome)
-      → slice_get f.steps n ≡ Some (Call target g operands place next) → prelude_named g ≡ None → function_named p g ≡ Some number → slice_get p.functions number ≡ Some callee
+      → slice_get f.steps n ≡ Some (Call target g operands place next) → prelude_named g ≡ None → st.names CurrentThread ≡ Some (Variable CurrentThread) → function_named p g ≡ Some number → slice_get p.functions number ≡ Some callee
       → HasContract e callee contract → EvaluatesAll e st.path st.locals operands ts → length ts ≡ contract.parameters
       → EntailsAll e st.path (facts_of_types callee.signature.parameters ts) → AreSorted e st.path contract.sorts ts
       → Consume e p contract.sorts all_of_it contract.requires_this (call_store ts) st (λ s1 st1.
