@@ -24,7 +24,7 @@ use Rattle.vf_meaning.specs.ShareOuts.{location_in, OwnsFor}
 use Rattle.vf_meaning.specs.Kept.{IsAt, Returns, with_result, depth}
 use Rattle.vf_meaning.proofs.Parts.{sums_turn, sums_regroup, nothing_is_neutral, in_left, in_right, in_either, single_only}
 use Rattle.vf_rules.specs.Types.{IsTypedContent, IsTypedPart}
-use Rattle.vf_safety.specs.Safe.{Duty, event_of, IsShared, Went, Secure}
+use Rattle.vf_safety.specs.Safe.{Duty, event_of, IsShared, IsShaped, Went, Secure}
 
 some_same : {A : Type 0} {x y : A} → Some x ≡ Some y → x ≡ y
 some_same e = cc
@@ -131,10 +131,10 @@ module _ (e : Environment) (p : ProgramTree) (t : ℕ) (duty : Duty) (S : Thread
   not_left s f frame callers step here inside result r = absurd (subst IsInside (sym (same_place p s t f r.f frame r.frame callers r.callers step _ here r.at).steps) inside)
 
   -- a thread with other frames and the same memory
-  pub went_local : (s : State) (f : FunctionTree) (frame : Frame) (callers : Thread) (step : StepTree) (frames : Thread) (own rest all : Part) → Here p s t f frame callers step → IsSum own rest all → Fits all s.memory → IsTypedPart e p all
+  pub went_local : (s : State) (f : FunctionTree) (frame : Frame) (callers : Thread) (step : StepTree) (frames : Thread) (own rest all : Part) → Here p s t f frame callers step → IsSum own rest all → Fits all s.memory → IsTypedPart e p all → IsShaped p s.memory
       → S frames own → ((result : Option Value) → Returns p s t result → depth s t ≡ 1 → Satisfies e whole (duty.contract).ensures_this (with_result duty.names result) own)
       → Went e p t duty S s (with_frames (turn_of s t frame callers) frames) rest
-  went_local s f frame callers step frames own rest all here sums fits typed safe leaves = record {
+  went_local s f frame callers step frames own rest all here sums fits typed shaped safe leaves = record {
     frames = frames;
     own = own;
     leaked = nothing;
@@ -144,6 +144,7 @@ module _ (e : Environment) (p : ProgramTree) (t : ℕ) (duty : Duty) (S : Thread
     sums = sums;
     fits = fits;
     typed = typed;
+    shaped = shaped;
     now = set_own s.threads t frames (frame ∷ callers) here.frames;
     alone = λ u other. set_other s.threads t u frames other;
     number = set_length s.threads t frames;
@@ -160,11 +161,11 @@ module _ (e : Environment) (p : ProgramTree) (t : ℕ) (duty : Duty) (S : Thread
 
   -- a step to other frames
   pub local_secure : (s : State) (f : FunctionTree) (frame : Frame) (callers : Thread) (step : StepTree) (frames : Thread) (own rest all : Part) → Here p s t f frame callers step → IsDirect step → IsInside step
-      → act_of p (turn_of s t frame callers) step ≡ Goes (with_frames (turn_of s t frame callers) frames) → IsSum own rest all → Fits all s.memory → IsTypedPart e p all → S frames own → Secure e p t duty S s own rest
-  local_secure s f frame callers step frames own rest all here direct inside is sums fits typed safe =
+      → act_of p (turn_of s t frame callers) step ≡ Goes (with_frames (turn_of s t frame callers) frames) → IsSum own rest all → Fits all s.memory → IsTypedPart e p all → IsShaped p s.memory → S frames own → Secure e p t duty S s own rest
+  local_secure s f frame callers step frames own rest all here direct inside is sums fits typed shaped safe =
       secure s f frame callers step own rest (Goes (with_frames (turn_of s t frame callers) frames)) here direct is
       (λ kind place h. goes_fault h) (λ touch new c l h. goes_touch h)
-      (λ grant. went_local s f frame callers step frames own rest all here sums fits typed safe (λ result r one. not_left s f frame callers step here inside result r))
+      (λ grant. went_local s f frame callers step frames own rest all here sums fits typed shaped safe (λ result r one. not_left s f frame callers step here inside result r))
 
   touches_fault : {touch : Touch} {new : State} {kind : FaultKind} {place : Place} → Touches touch new ≡ Faults kind place → ⊥
   touches_fault h = cc
@@ -174,18 +175,18 @@ module _ (e : Environment) (p : ProgramTree) (t : ℕ) (duty : Duty) (S : Thread
 
   -- a step that touches and goes to other frames, over the same memory
   pub reading_secure : (s : State) (f : FunctionTree) (frame : Frame) (callers : Thread) (step : StepTree) (touch : Touch) (frames : Thread) (own rest all : Part) → Here p s t f frame callers step → IsDirect step → IsInside step
-      → act_of p (turn_of s t frame callers) step ≡ Touches touch (with_frames (turn_of s t frame callers) frames) → IsSum own rest all → Fits all s.memory → IsTypedPart e p all
+      → act_of p (turn_of s t frame callers) step ≡ Touches touch (with_frames (turn_of s t frame callers) frames) → IsSum own rest all → Fits all s.memory → IsTypedPart e p all → IsShaped p s.memory
       → ((c : Cell) (l : Location) → TouchesCell s.memory touch c → location_in (block_at s.memory c.block) c ≡ Some l → OwnsFor touch own l) → S frames own → Secure e p t duty S s own rest
-  reading_secure s f frame callers step touch frames own rest all here direct inside is sums fits typed owned safe =
+  reading_secure s f frame callers step touch frames own rest all here direct inside is sums fits typed shaped owned safe =
       secure s f frame callers step own rest (Touches touch (with_frames (turn_of s t frame callers) frames)) here direct is
       (λ kind place h. touches_fault h) (λ touch' new c l h covers at. subst (λ z. OwnsFor z own l) (touches_same h) (owned c l (subst (λ z. TouchesCell s.memory z c) (sym (touches_same h)) covers) at))
-      (λ grant. went_local s f frame callers step frames own rest all here sums fits typed safe (λ result r one. not_left s f frame callers step here inside result r))
+      (λ grant. went_local s f frame callers step frames own rest all here sums fits typed shaped safe (λ result r one. not_left s f frame callers step here inside result r))
 
   -- a thread with other frames, another part and another memory, in which the mutexes and handles are as before
   pub went_over : (s : State) (f : FunctionTree) (frame : Frame) (callers : Thread) (step : StepTree) (frames : Thread) (m : Memory) (own rest all : Part) → Here p s t f frame callers step → IsInside step
-      → IsSum own rest all → Fits all m → IsTypedPart e p all → ((b : ℕ) → IsShared (block_at m b) → block_at m b ≡ block_at s.memory b)
+      → IsSum own rest all → Fits all m → IsTypedPart e p all → IsShaped p m → ((b : ℕ) → IsShared (block_at m b) → block_at m b ≡ block_at s.memory b)
       → S frames own → Went e p t duty S s (with_frames (over_memory (turn_of s t frame callers) m) frames) rest
-  went_over s f frame callers step frames m own rest all here inside sums fits typed unshared safe = record {
+  went_over s f frame callers step frames m own rest all here inside sums fits typed shaped unshared safe = record {
     frames = frames;
     own = own;
     leaked = nothing;
@@ -195,6 +196,7 @@ module _ (e : Environment) (p : ProgramTree) (t : ℕ) (duty : Duty) (S : Thread
     sums = sums;
     fits = fits;
     typed = typed;
+    shaped = shaped;
     now = set_own s.threads t frames (frame ∷ callers) here.frames;
     alone = λ u other. set_other s.threads t u frames other;
     number = set_length s.threads t frames;
@@ -205,13 +207,13 @@ module _ (e : Environment) (p : ProgramTree) (t : ℕ) (duty : Duty) (S : Thread
 
   -- a step that touches and goes to another memory
   pub writing_secure : (s : State) (f : FunctionTree) (frame : Frame) (callers : Thread) (step : StepTree) (touch : Touch) (frames : Thread) (m : Memory) (own rest own' all' : Part) → Here p s t f frame callers step → IsDirect step → IsInside step
-      → act_of p (turn_of s t frame callers) step ≡ Touches touch (with_frames (over_memory (turn_of s t frame callers) m) frames) → IsSum own' rest all' → Fits all' m → IsTypedPart e p all'
+      → act_of p (turn_of s t frame callers) step ≡ Touches touch (with_frames (over_memory (turn_of s t frame callers) m) frames) → IsSum own' rest all' → Fits all' m → IsTypedPart e p all' → IsShaped p m
       → ((b : ℕ) → IsShared (block_at m b) → block_at m b ≡ block_at s.memory b)
       → ((c : Cell) (l : Location) → TouchesCell s.memory touch c → location_in (block_at s.memory c.block) c ≡ Some l → OwnsFor touch own l) → S frames own' → Secure e p t duty S s own rest
-  writing_secure s f frame callers step touch frames m own rest own' all' here direct inside is sums fits typed unshared owned safe =
+  writing_secure s f frame callers step touch frames m own rest own' all' here direct inside is sums fits typed shaped unshared owned safe =
       secure s f frame callers step own rest (Touches touch (with_frames (over_memory (turn_of s t frame callers) m) frames)) here direct is
       (λ kind place h. touches_fault h) (λ touch' new c l h covers at. subst (λ z. OwnsFor z own l) (touches_same h) (owned c l (subst (λ z. TouchesCell s.memory z c) (sym (touches_same h)) covers) at))
-      (λ grant. went_over s f frame callers step frames m own' rest all' here inside sums fits typed unshared safe)
+      (λ grant. went_over s f frame callers step frames m own' rest all' here inside sums fits typed shaped unshared safe)
 
 -- ---- typed parts
 pub typed_sum : (e : Environment) (p : ProgramTree) (q f all : Part) → IsSum q f all → IsTypedPart e p q → IsTypedPart e p f → IsTypedPart e p all

@@ -6,7 +6,8 @@ use Rattle.vf_model.specs.declared.words.Event.{Event}
 use Rattle.vf_model.specs.declared.words.FaultKind.{FaultKind}
 use Rattle.vf_model.specs.Values.{Value}
 use Rattle.vf_model.specs.Values as values
-use Rattle.vf_model.specs.Memory.{Block, Struct, Ints, Mutex, Handle, Cell, block_at}
+use Rattle.vf_model.specs.Memory.{Memory, Block, Struct, Ints, Mutex, Handle, Cell, block_at}
+use Rattle.vf_model.specs.Accesses.{field_count}
 use Rattle.vf_model.specs.State.{Frame, Thread, State}
 use Rattle.vf_model.specs.State as state
 use Rattle.vf_model.specs.Acts.{Touch, Faults, Touches}
@@ -39,6 +40,10 @@ IsShared (Some (Mutex holder)) = Unit {0}
 IsShared (Some (Handle thread run argument)) = Unit {0}
 IsShared _ = ⊥
 
+-- each struct in a memory has as many cells as the program gives it fields
+abbrev pub IsShaped : ProgramTree → Memory → Type 0
+IsShaped p m = (b : ℕ) (g : Identity) (cells : List (Option Value)) → block_at m b ≡ Some (Struct g cells) → length cells ≡ field_count p g
+
 module _ (e : Environment) (p : ProgramTree) (t : ℕ) (duty : Duty) where
   -- An event of the thread led to a state: the thread has other frames and another part, the others have what they had but for what was leaked, all of it fits, no other thread and no mutex and handle was touched, what is left is safe, and a return from the first call leaves its postcondition
   pub record Went (S : Thread → Part → Type 0) (s new : State) (rest : Part) : Type 0 where
@@ -51,6 +56,7 @@ module _ (e : Environment) (p : ProgramTree) (t : ℕ) (duty : Duty) where
     pub sums : IsSum own others all
     pub fits : Fits all new.memory
     pub typed : IsTypedPart e p all
+    pub shaped : IsShaped p new.memory
     pub now : slice_get new.threads t ≡ Some frames
     pub alone : (u : ℕ) → u ≢ t → slice_get new.threads u ≡ slice_get s.threads u
     pub number : length new.threads ≡ length s.threads
@@ -72,7 +78,7 @@ module _ (e : Environment) (p : ProgramTree) (t : ℕ) (duty : Duty) where
   abbrev pub Safe : ℕ → Thread → Part → Type 0
   Safe zero frames own = Unit {0}
   Safe (suc n) [] own = Unit {0}
-  Safe (suc n) (frame ∷ callers) own = (s : State) (rest all : Part) → s.end ≡ None → slice_get s.threads t ≡ Some (frame ∷ callers) → IsSum own rest all → Fits all s.memory → IsTypedPart e p all
+  Safe (suc n) (frame ∷ callers) own = (s : State) (rest all : Part) → s.end ≡ None → slice_get s.threads t ≡ Some (frame ∷ callers) → IsSum own rest all → Fits all s.memory → IsTypedPart e p all → IsShaped p s.memory
       → Secure (Safe n) s own rest
 
   -- the frames after a return to them, with the result where it is wanted
