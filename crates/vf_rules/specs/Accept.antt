@@ -1,6 +1,5 @@
 -- When the body of a function is accepted: a rule for each core step, and rules for what annotations do between them.
 use Rattle.std.specs.Prelude.{◌≡◌, ◌⊎◌, ℕ, zero, suc, ◌≤◌, ◌-◌, ◌≢◌, List, [], ◌∷◌, ◌++◌, map, replicate, length, drop, slice_get, slice_set, Option, Some, None}
-use Rattle.std.specs.List.{range_with_len}
 use Rattle.vf_base.specs.declared.place.Place.{Place}
 use Rattle.vf_tree.specs.Core.{Identity, Field, TypeTree, Void, ExpressionTree, Comparison, StepTree, Set, Load, Store, Allocate, Free, Call, If, Return, FunctionTree, ProgramTree, NotEqual}
 use Rattle.vf_model.specs.Accesses.{field_count}
@@ -111,7 +110,7 @@ pub data Accepts (e : Environment) (p : ProgramTree) (f : FunctionTree) (k : Con
       → Accepts e p f k next (with_chunks st left) → Accepts e p f k n st
   do_call : {n : ℕ} {st : SymbolicState} (target : Option ℕ) (g : Identity) (operands : List ExpressionTree) (place : Place) (next number : ℕ) (callee : FunctionTree) (contract : ContractTree) (ts : List Term) (outs : List Outcome)
       → slice_get f.steps n ≡ Some (Call target g operands place next) → prelude_named g ≡ None → st.names CurrentThread ≡ Some (Variable CurrentThread) → function_named p g ≡ Some number → slice_get p.functions number ≡ Some callee
-      → HasContract e callee contract → EvaluatesAll e st.path st.locals operands ts → length ts ≡ contract.parameters
+      → HasContract e callee contract → (callee.signature.result ≡ Void → target ≡ None) → EvaluatesAll e st.path st.locals operands ts → length ts ≡ contract.parameters
       → EntailsAll e st.path (facts_of_types callee.signature.parameters ts) → AreSorted e st.path contract.sorts ts
       → Consume e p contract.sorts all_of_it contract.requires_this (call_store ts) st (λ s1 st1.
       (y : ℕ) × IsNew y all_of_it s1 [] st1
@@ -128,9 +127,14 @@ pub data Accepts (e : Environment) (p : ProgramTree) (f : FunctionTree) (k : Con
   may_open : {n : ℕ} {st : SymbolicState} (outs : List Outcome) → Opens e p st outs → ((s : terms.Store) (su : SymbolicState) → IsAmong outs s su → Accepts e p f k n su) → Accepts e p f k n st
   may_close : {n : ℕ} {st : SymbolicState} (outs : List Outcome) → Closes e p st outs → ((s : terms.Store) (su : SymbolicState) → IsAmong outs s su → Accepts e p f k n su) → Accepts e p f k n st
 
+-- n symbols in a row, from a number on
+abbrev pub symbols_from : ℕ → ℕ → List Term
+symbols_from i zero = []
+symbols_from i (suc n) = symbol i ∷ symbols_from (suc i) n
+
 -- a symbol for each parameter
 abbrev pub parameter_symbols : ℕ → List Term
-parameter_symbols n = map symbol (range_with_len 0 n)
+parameter_symbols n = symbols_from 0 n
 
 -- the state in which a body begins: the parameters have new symbols of their types and sorts, and no other local is set
 abbrev pub beginning : FunctionTree → ContractTree → SymbolicState
