@@ -11,16 +11,17 @@ use Rattle.vf_model.specs.Memory.{Memory, Block, Struct, Ints, Mutex, Handle, Ce
 use Rattle.vf_model.specs.State.{Frame, Thread, State, Turn, at_step, with_local, with_frames, over_memory}
 use Rattle.vf_model.specs.Evaluation.{Gives, evaluate}
 use Rattle.vf_model.specs.Acts.{Touch, Act, Touches, given}
-use Rattle.vf_model.specs.Accesses.{touch_of, loads_content, loads, stores}
+use Rattle.vf_model.specs.Accesses.{field_count, touch_of, loads_content, loads, stores}
 use Rattle.vf_model.specs.Races.{TouchesCell}
 use Rattle.vf_model.specs.Steps.{act_of}
-use Rattle.vf_meaning.specs.Fractions.{whole, IsPositive}
+use Rattle.vf_meaning.specs.Fractions.{nought, whole, sum, IsPositive}
 use Rattle.vf_meaning.specs.Parts.{Location, FieldCell, Content, CellOf, Part, single, IsSum}
 use Rattle.vf_meaning.specs.Fits.{Fits}
 use Rattle.vf_meaning.specs.Chunks.{start_of}
 use Rattle.vf_meaning.specs.ShareOuts.{location_in, OwnsFor}
-use Rattle.vf_meaning.proofs.FitSteps.{fields_are_there, block_here, block_elsewhere, own_identity}
-use Rattle.vf_safety.specs.Safe.{IsShared}
+use Rattle.vf_meaning.proofs.Parts.{sums_regroup, nought_or_positive, not_nought, in_left, sum_at, whole_is_alone, single_here}
+use Rattle.vf_meaning.proofs.FitSteps.{fields_are_there, block_here, block_elsewhere, own_identity, sum_left}
+use Rattle.vf_safety.specs.Safe.{IsShared, IsShaped}
 use Rattle.vf_safety.proofs.Steps.{turn_of}
 
 some_same : {A : Type 0} {x y : A} → Some x ≡ Some y → x ≡ y
@@ -96,3 +97,37 @@ store_unshared m b f held w h d shared =
       | inl e ↦ absurd (subst IsShared (ap (λ z. block_at z d) now ∙ ap (block_at _) e ∙ block_here m b (Struct f.structure (slice_set h.cells f.index (Some w)))) shared)
       | inr other ↦ ap (λ z. block_at z d) now ∙ block_elsewhere m b d (Struct f.structure (slice_set h.cells f.index (Some w))) other
     ]
+
+-- who owns the whole of a location with a part of what they own, owns the whole of it
+pub whole_of : (q r own rest all : Part) (m : Memory) (l k : Location) (c : Content) → l ≡ k → q ≡ single l c whole → IsSum q r own → IsSum own rest all → Fits all m → own k c ≡ whole
+whole_of q r own rest all m l k c same is inner outer fit =
+    let here : q l c ≡ whole = ap (λ z. z l c) is ∙ single_here l c whole in
+    let beyond = sums_regroup q r own rest all inner outer in
+    let none : r l c ≡ nought = elim (nought_or_positive (r l c)) [
+      | inl e ↦ e
+      | inr y ↦ absurd (not_nought (beyond.0 l c) (whole_is_alone q beyond.0 all m l c c beyond.2 fit here) (in_left r rest beyond.0 beyond.1 l c y))
+    ] in
+    subst (λ z. own z c ≡ whole) same (sum_at q r own inner l c ∙ ap (sum (q l c)) none ∙ sum_left (q l c) nought refl ∙ here)
+
+set_long : (xs : List (Option Value)) (i : ℕ) (y : Option Value) → length (slice_set xs i y) ≡ length xs
+set_long [] i y = refl
+set_long (x ∷ xs) zero y = refl
+set_long (x ∷ xs) (suc i) y = ap suc (set_long xs i y)
+
+-- a store keeps the number of cells
+pub written_shaped : (p : ProgramTree) (m : Memory) (b : ℕ) (f : Field) (held : Option Value) (w : Value) → FieldThere m b f held → IsShaped p m → IsShaped p (written m (the_cell b f) w)
+written_shaped p m b f held w h shaped d g cells is =
+    let now = ap (written_in m (the_cell b f) w) h.block in
+    elim (cases_eq d b) [
+      | inl e ↦ own (some_same (sym (block_here m b (Struct f.structure (slice_set h.cells f.index (Some w)))) ∙ ap (block_at _) (sym e) ∙ ap (λ z. block_at z d) (sym now) ∙ is))
+      | inr other ↦ shaped d g cells (sym (block_elsewhere m b d (Struct f.structure (slice_set h.cells f.index (Some w))) other) ∙ ap (λ z. block_at z d) (sym now) ∙ is)
+    ]
+  where
+    own : Struct f.structure (slice_set h.cells f.index (Some w)) ≡ Struct g cells → length cells ≡ field_count p g
+    own e = ap length (sym (cells_same e)) ∙ set_long h.cells f.index (Some w) ∙ shaped b f.structure h.cells h.block ∙ ap (field_count p) (names_same e)
+      where
+        cells_same : {xs ys : List (Option Value)} {a c : Identity} → Struct a xs ≡ Struct c ys → xs ≡ ys
+        cells_same e = cc
+
+        names_same : {xs ys : List (Option Value)} {a c : Identity} → Struct a xs ≡ Struct c ys → a ≡ c
+        names_same e = cc
