@@ -6,7 +6,8 @@ use Rattle.vf_model.specs.Accesses.{field_count}
 use Rattle.vf_model.specs.State.{function_named}
 use Rattle.vf_model.specs.PreludeFunctions.{PreludeFunction, prelude_named}
 use Rattle.vf_meaning.specs.Fractions.{whole}
-use Rattle.vf_meaning.specs.Ghost.{Sort, Pointers, Result, CurrentThread, Variable, Null, Not, Compare, Fraction}
+use Rattle.vf_meaning.specs.Ghost.{Sort, Name, Pointers, Result, CurrentThread, Variable, Null, Not, Compare, Fraction}
+use Rattle.vf_meaning.specs.Kept.{IsFixed}
 use Rattle.vf_meaning.specs.Assertions.{BlockOf, ContractTree, Environment}
 use Rattle.vf_rules.specs.Terms.{Term, stored}
 use Rattle.vf_rules.specs.Terms as terms
@@ -83,6 +84,14 @@ pub record HasContract (e : Environment) (f : FunctionTree) (k : ContractTree) :
   pub fewer : length f.signature.parameters ≤ length f.locals
   pub inhabited : AreInhabited e k.sorts
 
+-- each name that a store binds has its value when a call begins
+abbrev pub AreFixed : ContractTree → terms.Store → Type 0
+AreFixed k s = (x : Name) (t : Term) → s x ≡ Some t → IsFixed k x
+
+-- a later store binds no other name that has its value when a call begins
+abbrev pub KeepsFixed : ContractTree → terms.Store → terms.Store → Type 0
+KeepsFixed k s r = (x : Name) (t : Term) → IsFixed k x → r x ≡ Some t → s x ≡ Some t
+
 -- A body is accepted from a step on, in a state. `do_` are the rules of core steps, `may_` those of what annotations do, or of a state that cannot be
 pub data Accepts (e : Environment) (p : ProgramTree) (f : FunctionTree) (k : ContractTree) : ℕ → SymbolicState → Type 0 where
   do_set : {n : ℕ} {st : SymbolicState} (x : ℕ) (a : ExpressionTree) (next : ℕ) (t : Term) → slice_get f.steps n ≡ Some (Set x a next) → Evaluates e st.path st.locals a t
@@ -113,15 +122,15 @@ pub data Accepts (e : Environment) (p : ProgramTree) (f : FunctionTree) (k : Con
       → HasContract e callee contract → (callee.signature.result ≡ Void → target ≡ None) → EvaluatesAll e st.path st.locals operands ts → length ts ≡ contract.parameters
       → EntailsAll e st.path (facts_of_types callee.signature.parameters ts) → AreSorted e st.path contract.sorts ts
       → Consume e p contract.sorts all_of_it contract.requires_this (call_store ts) st (λ s1 st1.
-      (y : ℕ) × IsNew y all_of_it s1 [] st1
+      (y : ℕ) × IsNew y all_of_it s1 [] st1 × AreFixed contract s1
       × Produce e p contract.sorts all_of_it contract.ensures_this (stored s1 Result (symbol y)) (assuming_all st1 (facts_of_result callee.signature.result (symbol y)))
       (λ s2 st2. IsAmong outs s2 (receiving target (symbol y) st2)))
       → ((s : terms.Store) (su : SymbolicState) → IsAmong outs s su → Accepts e p f k next su) → Accepts e p f k n st
   do_return : {n : ℕ} {st : SymbolicState} (a : ExpressionTree) (t : Term) → slice_get f.steps n ≡ Some (Return (Some a)) → Evaluates e st.path st.locals a t
       → EntailsAll e st.path (facts_of_result f.signature.result t) → f.signature.result ≢ Void
-      → Consume e p k.sorts all_of_it k.ensures_this (stored st.names Result t) st (λ s1 st1. st1.chunks ≡ []) → Accepts e p f k n st
+      → Consume e p k.sorts all_of_it k.ensures_this (stored st.names Result t) st (λ s1 st1. (st1.chunks ≡ []) × KeepsFixed k st.names s1) → Accepts e p f k n st
   do_leave : {n : ℕ} {st : SymbolicState} → slice_get f.steps n ≡ Some (Return None) → f.signature.result ≡ Void
-      → Consume e p k.sorts all_of_it k.ensures_this st.names st (λ s1 st1. st1.chunks ≡ []) → Accepts e p f k n st
+      → Consume e p k.sorts all_of_it k.ensures_this st.names st (λ s1 st1. (st1.chunks ≡ []) × KeepsFixed k st.names s1) → Accepts e p f k n st
   may_drop : {n : ℕ} {st : SymbolicState} → Infeasible e st.path → Accepts e p f k n st
   may_change : {n : ℕ} {st new : SymbolicState} → Changes e st new → Accepts e p f k n new → Accepts e p f k n st
   may_open : {n : ℕ} {st : SymbolicState} (outs : List Outcome) → Opens e p st outs → ((s : terms.Store) (su : SymbolicState) → IsAmong outs s su → Accepts e p f k n su) → Accepts e p f k n st

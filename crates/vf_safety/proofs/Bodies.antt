@@ -30,7 +30,7 @@ use Rattle.vf_meaning.specs.Fits.{Fits}
 use Rattle.vf_meaning.specs.Chunks.{start_of, CellMeets}
 use Rattle.vf_meaning.specs.Satisfaction.{Satisfies}
 use Rattle.vf_meaning.specs.ShareOuts.{location_in, OwnsFor}
-use Rattle.vf_meaning.specs.Kept.{IsReturned, Returns, with_result, depth_in, depth}
+use Rattle.vf_meaning.specs.Kept.{IsFixed, Ensures, IsReturned, Returns, with_result, depth_in, depth}
 use Rattle.vf_meaning.proofs.Parts.{sums_turn, sums_regroup, nothing_is_neutral, nothing-⊕, in_left, in_right, single_here}
 use Rattle.vf_meaning.proofs.FitSteps.{fields_are_written, blocks_are_freed}
 use Rattle.vf_meaning.specs.FitLaws.{FitTogether}
@@ -416,7 +416,7 @@ module _ (e : Environment) (p : ProgramTree) (t : ℕ) (duty : Duty) (f : Functi
   depth_is s frame callers h = ap depth_in h
 
   ended_frames : (s : State) (frame : Frame) (callers : Thread) (w : Option Value) (rest own all : Part) → s.end ≡ None → slice_get s.threads t ≡ Some (frame ∷ callers) → IsSum own rest all → Fits all s.memory → IsTypedPart e p all → IsShaped p s.memory
-      → (m : ℕ) → ((result : Option Value) → Returns p s t result → depth s t ≡ 1 → Satisfies e whole (duty.contract).ensures_this (with_result duty.names result) own)
+      → (m : ℕ) → ((result : Option Value) → Returns p s t result → depth s t ≡ 1 → Ensures e duty.contract duty.names result own)
       → Safe e p t duty m (returned e p t duty callers frame.target w) own → Went e p t duty (Safe e p t duty m) s (returns (turn_of s t frame callers) w) rest
   ended_frames s frame [] w rest own all going frames sums fits typed shaped m leaves safe =
       elim (cases_Bool (t == 0)) [

@@ -21,7 +21,7 @@ use Rattle.vf_meaning.specs.Parts.{Location, Content, Part, nothing, single, IsS
 use Rattle.vf_meaning.specs.Fits.{Fits}
 use Rattle.vf_meaning.specs.Satisfaction.{Satisfies}
 use Rattle.vf_meaning.specs.ShareOuts.{location_in, OwnsFor}
-use Rattle.vf_meaning.specs.Kept.{IsAt, Returns, with_result, depth}
+use Rattle.vf_meaning.specs.Kept.{IsAt, Returns, Ensures, depth}
 use Rattle.vf_meaning.proofs.Parts.{sums_turn, sums_regroup, nothing_is_neutral, in_left, in_right, in_either, single_only}
 use Rattle.vf_rules.specs.Types.{IsTypedContent, IsTypedPart}
 use Rattle.vf_safety.specs.Safe.{Duty, event_of, IsShared, IsShaped, Went, Secure}
@@ -132,7 +132,7 @@ module _ (e : Environment) (p : ProgramTree) (t : ℕ) (duty : Duty) (S : Thread
 
   -- a thread with other frames and the same memory
   pub went_local : (s : State) (f : FunctionTree) (frame : Frame) (callers : Thread) (step : StepTree) (frames : Thread) (own rest all : Part) → Here p s t f frame callers step → IsSum own rest all → Fits all s.memory → IsTypedPart e p all → IsShaped p s.memory
-      → S frames own → ((result : Option Value) → Returns p s t result → depth s t ≡ 1 → Satisfies e whole (duty.contract).ensures_this (with_result duty.names result) own)
+      → S frames own → ((result : Option Value) → Returns p s t result → depth s t ≡ 1 → Ensures e duty.contract duty.names result own)
       → Went e p t duty S s (with_frames (turn_of s t frame callers) frames) rest
   went_local s f frame callers step frames own rest all here sums fits typed shaped safe leaves = record {
     frames = frames;

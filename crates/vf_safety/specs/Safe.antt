@@ -15,14 +15,12 @@ use Rattle.vf_model.specs.Races.{TouchesCell}
 use Rattle.vf_model.specs.Steps.{next_act}
 use Rattle.vf_model.specs.Runs.{after}
 use Rattle.vf_model.specs.PreludeFunctions.{PreludeFunction, prelude_named}
-use Rattle.vf_meaning.specs.Fractions.{whole}
 use Rattle.vf_meaning.specs.Valuations.{Valuation}
 use Rattle.vf_meaning.specs.Assertions.{ContractTree, Environment}
 use Rattle.vf_meaning.specs.Parts.{Location, Part, IsSum}
 use Rattle.vf_meaning.specs.Fits.{Fits}
-use Rattle.vf_meaning.specs.Satisfaction.{Satisfies}
 use Rattle.vf_meaning.specs.ShareOuts.{location_in, OwnsFor}
-use Rattle.vf_meaning.specs.Kept.{IsAt, Returns, with_result, depth}
+use Rattle.vf_meaning.specs.Kept.{IsAt, Returns, Ensures, depth}
 use Rattle.vf_rules.specs.Types.{IsOfType, IsTypedPart}
 
 -- what a thread's first call owes at its return: a contract's postcondition, under a valuation of the contract's names
@@ -62,7 +60,7 @@ module _ (e : Environment) (p : ProgramTree) (t : ℕ) (duty : Duty) where
     pub number : length new.threads ≡ length s.threads
     pub unshared : (b : ℕ) → IsShared (block_at new.memory b) → block_at new.memory b ≡ block_at s.memory b
     pub going : new.end ≡ None → S frames own
-    pub leaves : (result : Option Value) → Returns p s t result → depth s t ≡ 1 → Satisfies e whole (duty.contract).ensures_this (with_result duty.names result) own
+    pub leaves : (result : Option Value) → Returns p s t result → depth s t ≡ 1 → Ensures e duty.contract duty.names result own
 
   -- in a state the thread's next step has no fault, the thread owns what it touches, the step is no call through a pointer and no start of a thread, and whatever is granted it is as above after it
   pub record Secure (S : Thread → Part → Type 0) (s : State) (own rest : Part) : Type 0 where
@@ -94,5 +92,5 @@ module _ (e : Environment) (p : ProgramTree) (t : ℕ) (duty : Duty) where
   -- after a return, in fewer steps than n, what is left is safe beside the rest, and where no frame is left the duty is done
   abbrev pub Continues : ℕ → Thread → Option ℕ → TypeTree → ContractTree → Valuation → Part → Type 0
   Continues n callers target type contract names rest =
-      (j : ℕ) → j < n → (result : Option Value) (q own : Part) → IsResult type result → Satisfies e whole contract.ensures_this (with_result names result) q → IsTypedPart e p own → IsSum q rest own
-      → (callers ≡ [] → Satisfies e whole (duty.contract).ensures_this (with_result duty.names result) own) × Safe j (returned callers target result) own
+      (j : ℕ) → j < n → (result : Option Value) (q own : Part) → IsResult type result → Ensures e contract names result q → IsTypedPart e p own → IsSum q rest own
+      → (callers ≡ [] → Ensures e duty.contract duty.names result own) × Safe j (returned callers target result) own
