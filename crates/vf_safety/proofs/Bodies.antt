@@ -20,7 +20,7 @@ use Rattle.vf_model.specs.Steps.{act_of}
 use Rattle.vf_model.specs.Runs.{happens}
 use Rattle.vf_model.specs.PreludeFunctions.{PreludeFunction, prelude_named}
 use Rattle.vf_meaning.specs.Fractions.{whole, IsPositive}
-use Rattle.vf_meaning.specs.Ghost.{Sort, Pointers, Name, Numbered, Result, CurrentThread, Variable, Null, Not, Compare}
+use Rattle.vf_meaning.specs.Ghost.{Sort, Pointers, Name, same_name, Numbered, Result, CurrentThread, Variable, Null, Not, Compare}
 use Rattle.vf_meaning.specs.Valuations.{Valuation, bound, is_true}
 use Rattle.vf_meaning.specs.GhostValues.{compared}
 use Rattle.vf_meaning.specs.Assertions.{ContractTree, Environment}
@@ -28,9 +28,10 @@ use Rattle.vf_meaning.specs.Sorts.{HasSort, AreOfSorts}
 use Rattle.vf_meaning.specs.Parts.{Location, FieldCell, Content, CellOf, Part, nothing, single, ◌⊕◌, IsSum}
 use Rattle.vf_meaning.specs.Fits.{Fits}
 use Rattle.vf_meaning.specs.Chunks.{start_of, CellMeets}
-use Rattle.vf_meaning.specs.Satisfaction.{Satisfies}
+use Rattle.vf_meaning.specs.Satisfaction.{Satisfies, SatisfiesAt}
 use Rattle.vf_meaning.specs.ShareOuts.{location_in, OwnsFor}
 use Rattle.vf_meaning.specs.Kept.{IsFixed, Ensures, IsReturned, Returns, with_result, depth_in, depth}
+use Rattle.vf_meaning.proofs.Values.{tells_names}
 use Rattle.vf_meaning.proofs.Parts.{sums_turn, sums_regroup, nothing_is_neutral, nothing-⊕, in_left, in_right, single_here}
 use Rattle.vf_meaning.proofs.FitSteps.{fields_are_written, blocks_are_freed}
 use Rattle.vf_meaning.specs.FitLaws.{FitTogether}
@@ -46,7 +47,7 @@ use Rattle.vf_rules.specs.Consume.{EntailsAll, Consume}
 use Rattle.vf_rules.specs.Laws.{Outcome, IsAmong, Grows, StoreSorted}
 use Rattle.vf_rules.specs.Predicates.{store_of, AreSorted, Opens, Closes}
 use Rattle.vf_rules.specs.Evaluate.{Evaluates, EvaluatesAll, IsOfC}
-use Rattle.vf_rules.specs.Accept.{all_of_it, receiving, cell_chunk, new_chunks, TakesFields, facts_of_types, facts_of_result, call_store, HasContract, Accepts, do_set, do_if, do_load, do_store, do_allocate, do_free_null, do_free, do_call, do_return, do_leave, may_drop, may_change, may_open, may_close}
+use Rattle.vf_rules.specs.Accept.{all_of_it, receiving, cell_chunk, new_chunks, TakesFields, facts_of_types, facts_of_result, call_store, HasContract, AreFixed, KeepsFixed, Accepts, do_set, do_if, do_load, do_store, do_allocate, do_free_null, do_free, do_call, do_return, do_leave, may_drop, may_change, may_open, may_close}
 use Rattle.vf_rules.specs.Accept as accept
 use Rattle.vf_rules.proofs.Terms.{fresh_value, own_symbol, stored_own, stored_other}
 use Rattle.vf_rules.proofs.Stands.{stands_fresh, assuming_all_stands, assuming_stands, chunks_more}
@@ -502,3 +503,103 @@ module _ (e : Environment) (p : ProgramTree) (t : ℕ) (duty : Duty) (f : Functi
 
   still_means : (v u w : Valuation) (s r : terms.Store) → Grows s r → ((x : Name) (z : Term) → s x ≡ Some z → value_in e u z ≡ value_in e v z) → StoreMeans e v s w → StoreMeans e u s w
   still_means v u w s r g stays m x z h = stays x z h ∙ m x z h
+
+  -- ---- a valuation with the values of a store's terms, and others where a name has none
+  value_or : (v : Valuation) (o : Option Term) (u : Value) → Value
+  value_or v None u = u
+  value_or v (Some z) u = value_in e v z
+
+  override : Valuation → terms.Store → Valuation → Valuation
+  override v s w x = value_or v (s x) (w x)
+
+  or_is : (v : Valuation) (o : Option Term) (u : Value) (z : Term) → o ≡ Some z → value_in e v z ≡ value_or v o u
+  unfolding value_or
+  or_is v o u z h = ap (λ y. value_or v y u) (sym h)
+
+  or_else : (v : Valuation) (o : Option Term) (u w : Value) → ((z : Term) → o ≡ Some z → value_in e v z ≡ w) → u ≡ w → value_or v o u ≡ w
+  unfolding value_or
+  or_else v None u w h is = is
+  or_else v (Some z) u w h is = h z refl
+
+  or_sorted : (v : Valuation) (o : Option Term) (u : Value) (so : Sort) → ((z : Term) → o ≡ Some z → HasSort e (value_in e v z) so) → HasSort e u so → HasSort e (value_or v o u) so
+  unfolding value_or
+  or_sorted v None u so h is = is
+  or_sorted v (Some z) u so h is = h z refl
+
+  override_means : (v : Valuation) (s : terms.Store) (w : Valuation) → StoreMeans e v s (override v s w)
+  unfolding override
+  override_means v s w x z h = or_is v (s x) (w x) z h
+
+  override_sorted : (v : Valuation) (sorts : List Sort) (s : terms.Store) (w : Valuation) → StoreSorted e v sorts s → AreOfSorts e w sorts → AreOfSorts e (override v s w) sorts
+  unfolding override
+  override_sorted v sorts s w h k0 n so known = or_sorted v (s (Numbered n)) (w (Numbered n)) so (λ z is. h n so z is known) (k0 n so known)
+
+  override_is : (v : Valuation) (s : terms.Store) (w : Valuation) (x : Name) (u : Value) → ((z : Term) → s x ≡ Some z → value_in e v z ≡ u) → w x ≡ u → override v s w x ≡ u
+  unfolding override
+  override_is v s w x u h is = or_else v (s x) (w x) u h is
+
+  not_result : (x : Name) → IsFixed k x → x ≢ Result
+  not_result x h is = subst (IsFixed k) is h
+
+  -- a postcondition that was consumed
+  consumed_ensures : (v u : Valuation) (names : Valuation) (st : SymbolicState) (before after : terms.Store) (result : Option Value) (depth0 : ℕ) (off : Part) → StoreMeans e v st.names names → AreOfSorts e names k.sorts → StoreSorted e u k.sorts after
+      → KeepsFixed k st.names after → ((x : Name) → IsFixed k x → before x ≡ st.names x) → ((x : Name) (z : Term) → before x ≡ Some z → value_in e u z ≡ value_in e v z)
+      → StoreMeans e u after (with_result (override u after names) result)
+      → ((w : Valuation) → StoreMeans e u after w → SatisfiesAt e depth0 whole k.ensures_this w off) → Ensures e k names result off
+  consumed_ensures v u names st before after result depth0 off means of_sorts sorted keeps same_before stays means_after satisfies = record {
+    later = override u after names;
+    fixed = λ x fix. override_is u after names x (names x)
+        (λ z is. stays x z (same_before x fix ∙ keeps x z fix is) ∙ means x z (keeps x z fix is)) refl;
+    sorts = override_sorted u k.sorts after names sorted of_sorts;
+    satisfies = (depth0, satisfies (with_result (override u after names) result) means_after);
+  }
+
+  result_means : (u : Valuation) (after : terms.Store) (names : Valuation) (z : Term) (w : Value) → after Result ≡ Some z → value_in e u z ≡ w → StoreMeans e u after (bound (override u after names) Result w)
+  result_means u after names z w is value x y h =
+      elim (cases_Bool (same_name x Result)) [
+        | inl same_one ↦
+          ap (value_in e u) (some_same (sym h ∙ ap after ((tells_names x Result).0 same_one) ∙ is)) ∙ value ∙ ap (λ b. cond b w (override u after names x)) (sym same_one)
+        | inr other ↦ override_means u after names x y h ∙ ap (λ b. cond b w (override u after names x)) (sym other)
+      ]
+
+  return_safe : (n : ℕ) (st : SymbolicState) (m : ℕ) (frame : Frame) (callers : Thread) (own : Part) (a : ExpressionTree) (u : Term) → (r : Ready n st (suc m) frame callers own) → slice_get f.steps n ≡ Some (Return (Some a))
+      → Evaluates e st.path st.locals a u → EntailsAll e st.path (facts_of_result f.signature.result u) → f.signature.result ≢ Void
+      → Consume e p k.sorts all_of_it k.ensures_this (stored st.names Result u) st (λ s1 st1. (st1.chunks ≡ []) × KeepsFixed k st.names s1) → Safe e p t duty (suc m) (frame ∷ callers) own
+  return_safe n st m frame callers own a u r is ev facts value_type consume s rest all going frames sums fits typed shaped =
+      let v = r.symbols in
+      let w = value_in e v u in
+      let at = here n st (suc m) frame callers own s (Return (Some a)) r is going frames in
+      let value = evaluates e v st.path st.locals frame.locals a u ev (r.stands).path (r.stands).locals_mean in
+      let c = consumed e p k.sorts all_of_it whole frame.locals r.names k.ensures_this (stored st.names Result u) st (λ s1 st1. (st1.chunks ≡ []) × KeepsFixed k st.names s1) consume v r.part r.stands
+          (result_store_sorted e v k.sorts st.names u (names_sorted e v k.sorts st.names r.names (r.stands).names_mean r.of_sorts)) refl in
+      let left_none : c.left ≡ nothing = subst (λ cs. ChunksMean e c.under cs c.left) (c.holds).0 (c.stands).chunks_mean in
+      let off_is : c.off ≡ r.part = nothing_left c.off c.left r.part left_none c.sums in
+      let result_is : c.store Result ≡ Some u = c.grows Result u (stored_own st.names Result u) in
+      let ensured = consumed_ensures v c.under r.names st (stored st.names Result u) c.store (Some w) c.depth c.off (r.stands).names_mean r.of_sorts c.sorted (c.holds).1
+          (λ x fix. stored_other st.names Result x u (not_result x fix)) c.stays
+          (result_means c.under c.store r.names u w result_is (c.stays Result u (stored_own st.names Result u))) c.satisfies in
+      let next = r.continues m (omega arith) (Some w) c.off own (may_is f.signature.result w value_type (type_back e v f.signature.result u (all_entailed e st.path _ facts v (r.stands).path))) ensured r.typed
+          (subst (λ z. IsSum z r.kept own) (sym off_is) r.sums) in
+      secure e p t duty (Safe e p t duty m) s f frame callers (Return (Some a)) own rest (Goes (returns (turn_of s t frame callers) (Some w))) at tt (return_act s frame callers a w value)
+      (λ kind place h. goes_fault h) (λ touch new c0 l h. goes_touch h)
+      (λ grant. ended_frames s frame callers (Some w) rest own all going frames sums fits typed shaped m
+      (λ result back one. subst (λ z. Ensures e duty.contract duty.names z own) (sym (returned_value s frame callers a w at value result back)) (next.0 (one_frame callers (sym (depth_is s frame callers frames) ∙ one)))) next.1)
+
+  leave_act : (s : State) (frame : Frame) (callers : Thread) → act_of p (turn_of s t frame callers) (Return None) ≡ Goes (returns (turn_of s t frame callers) None)
+  leave_act s frame callers = refl
+
+  leave_safe : (n : ℕ) (st : SymbolicState) (m : ℕ) (frame : Frame) (callers : Thread) (own : Part) → (r : Ready n st (suc m) frame callers own) → slice_get f.steps n ≡ Some (Return None) → f.signature.result ≡ Void
+      → Consume e p k.sorts all_of_it k.ensures_this st.names st (λ s1 st1. (st1.chunks ≡ []) × KeepsFixed k st.names s1) → Safe e p t duty (suc m) (frame ∷ callers) own
+  leave_safe n st m frame callers own r is no_value consume s rest all going frames sums fits typed shaped =
+      let v = r.symbols in
+      let at = here n st (suc m) frame callers own s (Return None) r is going frames in
+      let c = consumed e p k.sorts all_of_it whole frame.locals r.names k.ensures_this st.names st (λ s1 st1. (st1.chunks ≡ []) × KeepsFixed k st.names s1) consume v r.part r.stands
+          (names_sorted e v k.sorts st.names r.names (r.stands).names_mean r.of_sorts) refl in
+      let left_none : c.left ≡ nothing = subst (λ cs. ChunksMean e c.under cs c.left) (c.holds).0 (c.stands).chunks_mean in
+      let off_is : c.off ≡ r.part = nothing_left c.off c.left r.part left_none c.sums in
+      let ensured = consumed_ensures v c.under r.names st st.names c.store None c.depth c.off (r.stands).names_mean r.of_sorts c.sorted (c.holds).1 (λ x fix. refl) c.stays (override_means c.under c.store r.names) c.satisfies in
+      let next = r.continues m (omega arith) None c.off own no_value ensured r.typed (subst (λ z. IsSum z r.kept own) (sym off_is) r.sums) in
+      secure e p t duty (Safe e p t duty m) s f frame callers (Return None) own rest (Goes (returns (turn_of s t frame callers) None)) at tt (leave_act s frame callers)
+      (λ kind place h. goes_fault h) (λ touch new c0 l h. goes_touch h)
+      (λ grant. ended_frames s frame callers None rest own all going frames sums fits typed shaped m
+      (λ result back one. subst (λ z. Ensures e duty.contract duty.names z own) (sym (returned_nothing s frame callers at result back)) (next.0 (one_frame callers (sym (depth_is s frame callers frames) ∙ one)))) next.1)
