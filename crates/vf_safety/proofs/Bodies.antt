@@ -49,7 +49,7 @@ use Rattle.vf_rules.specs.Predicates.{store_of, AreSorted, Opens, Closes}
 use Rattle.vf_rules.specs.Evaluate.{Evaluates, EvaluatesAll, IsOfC}
 use Rattle.vf_rules.specs.Accept.{all_of_it, receiving, cell_chunk, new_chunks, TakesFields, facts_of_types, facts_of_result, call_store, HasContract, AreFixed, KeepsFixed, Accepts, do_set, do_if, do_load, do_store, do_allocate, do_free_null, do_free, do_call, do_return, do_leave, may_drop, may_change, may_open, may_close}
 use Rattle.vf_rules.specs.Accept as accept
-use Rattle.vf_rules.proofs.Terms.{fresh_value, own_symbol, stored_own, stored_other}
+use Rattle.vf_rules.proofs.Terms.{fresh_value, fresh_store, stored_means, own_symbol, stored_own, stored_other}
 use Rattle.vf_rules.proofs.Stands.{stands_fresh, assuming_all_stands, assuming_stands, chunks_more}
 use Rattle.vf_rules.proofs.Produces.{produced, type_met}
 use Rattle.vf_rules.proofs.Takes.{same_value, takes_parted, removes_parted, changes_stand}
@@ -133,20 +133,20 @@ result_store_sorted e v sorts s u h k so x is known = h k so x (sym (stored_othe
 -- ---- bodies
 module _ (e : Environment) (p : ProgramTree) (t : ℕ) (duty : Duty) (f : FunctionTree) (k : ContractTree) where
   -- a frame is at a step, in a state that stands for its locals and its part, and what comes after its return is safe
-  record Ready (n : ℕ) (st : SymbolicState) (m : ℕ) (frame : Frame) (callers : Thread) (own : Part) : Type 0 where
-    symbols : Valuation
-    names : Valuation
-    part : Part
-    kept : Part
-    function : slice_get p.functions frame.function ≡ Some f
-    step : frame.step ≡ n
-    stands : StandsFor e symbols st frame.locals names part
-    of_sorts : AreOfSorts e names k.sorts
-    thread : names CurrentThread ≡ values.Number (pos t)
-    typed : IsTypedPart e p own
-    sums : IsSum part kept own
-    continues : Continues e p t duty m callers frame.target f.signature.result k names kept
-    others : AllSafe e p t duty m
+  pub record Ready (n : ℕ) (st : SymbolicState) (m : ℕ) (frame : Frame) (callers : Thread) (own : Part) : Type 0 where
+    pub symbols : Valuation
+    pub names : Valuation
+    pub part : Part
+    pub kept : Part
+    pub function : slice_get p.functions frame.function ≡ Some f
+    pub step : frame.step ≡ n
+    pub stands : StandsFor e symbols st frame.locals names part
+    pub of_sorts : AreOfSorts e names k.sorts
+    pub thread : names CurrentThread ≡ values.Number (pos t)
+    pub typed : IsTypedPart e p own
+    pub sums : IsSum part kept own
+    pub continues : Continues e p t duty m callers frame.target f.signature.result k names kept
+    pub others : AllSafe e p t duty m
 
   here : (n : ℕ) (st : SymbolicState) (m : ℕ) (frame : Frame) (callers : Thread) (own : Part) (s : State) (step : StepTree) → Ready n st m frame callers own → slice_get f.steps n ≡ Some step → s.end ≡ None → slice_get s.threads t ≡ Some (frame ∷ callers)
       → Here p s t f frame callers step
@@ -603,3 +603,190 @@ module _ (e : Environment) (p : ProgramTree) (t : ℕ) (duty : Duty) (f : Functi
       (λ kind place h. goes_fault h) (λ touch new c0 l h. goes_touch h)
       (λ grant. ended_frames s frame callers None rest own all going frames sums fits typed shaped m
       (λ result back one. subst (λ z. Ensures e duty.contract duty.names z own) (sym (returned_nothing s frame callers at result back)) (next.0 (one_frame callers (sym (depth_is s frame callers frames) ∙ one)))) next.1)
+
+  -- ---- calls
+  -- the frame that a call returns to, with the result
+  back_to : Frame → ℕ → Option ℕ → Option Value → Frame
+  back_to frame next target result = state.with_result (at_step frame next) target result
+
+  resumed : (n next : ℕ) (st su : SymbolicState) (m j : ℕ) (frame : Frame) (callers : Thread) (own own2 : Part) (r : Ready n st (suc m) frame callers own) (target : Option ℕ) (result : Option Value) (y : Term) (type : TypeTree) (v : Valuation) (q : Part)
+      → j < suc m → IsResult e p t duty type result → (type ≡ Void → target ≡ None) → ((w : Value) → result ≡ Some w → value_in e v y ≡ w)
+      → StandsFor e v su frame.locals r.names q → IsTypedPart e p own2 → IsSum q r.kept own2 → Ready next (receiving target y su) j (back_to frame next target result) callers own2
+  unfolding back_to
+  resumed n next st su m j frame callers own own2 r None result y type v q l typed_result to value stands typed sums = record {
+    symbols = v;
+    names = r.names;
+    part = q;
+    kept = r.kept;
+    function = r.function;
+    step = refl;
+    stands = stands;
+    of_sorts = r.of_sorts;
+    thread = r.thread;
+    typed = typed;
+    sums = sums;
+    continues = continues_below e p t duty j (suc m) callers frame.target f.signature.result k r.names r.kept l r.continues;
+    others = below e p t duty j (suc m) l r.others;
+  }
+  resumed n next st su m j frame callers own own2 r (Some x) (Some w) y type v q l typed_result to value stands typed sums = record {
+    symbols = v;
+    names = r.names;
+    part = q;
+    kept = r.kept;
+    function = r.function;
+    step = refl;
+    stands = with_locals e v su frame.locals r.names q x y w (value w refl) stands;
+    of_sorts = r.of_sorts;
+    thread = r.thread;
+    typed = typed;
+    sums = sums;
+    continues = continues_below e p t duty j (suc m) callers frame.target f.signature.result k r.names r.kept l r.continues;
+    others = below e p t duty j (suc m) l r.others;
+  }
+  resumed n next st su m j frame callers own own2 r (Some x) None y type v q l typed_result to value stands typed sums = none_some (sym (to typed_result))
+
+  result_facts : (v : Valuation) (type : TypeTree) (y : Term) (result : Option Value) → IsResult e p t duty type result → ((w : Value) → result ≡ Some w → value_in e v y ≡ w) → Meets e v (facts_of_result type y)
+  result_facts v type y (Some w) h is = type_met e v type y w (is w refl) h
+  result_facts v type y None h is = subst (λ z. Meets e v (facts_of_type z y)) (sym h) tt
+
+  -- the value of the symbol of a result
+  result_or : Option Value → Value → Value
+  result_or (Some w) u = w
+  result_or None u = u
+
+  with_result_means : (v : Valuation) (s : terms.Store) (w : Valuation) (y : Term) (result : Option Value) → StoreMeans e v s w → value_in e v y ≡ result_or result (w Result) → StoreMeans e v (stored s Result y) (with_result w result)
+  unfolding result_or
+  with_result_means v s w y (Some u) m is = bound_stored e v s w Result y u m is
+  with_result_means v s w y None m is = stored_means e v s w Result y m is
+
+  with_result_sorted : (w : Valuation) (sorts : List Sort) (result : Option Value) → AreOfSorts e w sorts → AreOfSorts e (with_result w result) sorts
+  with_result_sorted w sorts None h = h
+  with_result_sorted w sorts (Some u) h = result_sorted e w u sorts h
+
+  result_value : (result : Option Value) (u w : Value) → result ≡ Some w → result_or result u ≡ w
+  unfolding result_or
+  result_value (Some x) u w h = some_same h
+  result_value None u w h = none_some h
+
+  result_bound : (w : Valuation) (result : Option Value) (u : Value) → result ≡ Some u → with_result w result Result ≡ u
+  result_bound w (Some x) u h = bound_own w x ∙ some_same h
+    where
+      bound_own : (w : Valuation) (x : Value) → bound w Result x Result ≡ x
+      bound_own w x = ap (λ b. cond b x (w Result)) ((tells_names Result Result).1 refl)
+  result_bound w None u h = none_some h
+
+  sorted_arguments : (v : Valuation) (path : List Fact) (sorts : List Sort) (ts : List Term) → AreSorted e path sorts ts → Meets e v path → StoreSorted e v sorts (call_store ts)
+  sorted_arguments v path sorts ts h m n so z is known = (h n so z known (sym (stored_other (store_of ts) CurrentThread (Numbered n) (Variable CurrentThread) (λ c. clash c)) ∙ is)).by v m
+    where
+      clash : Numbered n ≡ CurrentThread → ⊥
+      clash c = cc
+
+  argument_at : (v : Valuation) (ts : List Term) (j : ℕ) (w : Value) → slice_get (map (value_in e v) ts) j ≡ Some w → (z : Term) × (slice_get ts j ≡ Some z) × (value_in e v z ≡ w)
+  argument_at v [] j w h = none_some h
+  argument_at v (z ∷ ts) zero w h = (z, refl, some_same h)
+  argument_at v (z ∷ ts) (suc j) w h = argument_at v ts j w h
+
+  mapped_long : (v : Valuation) (ts : List Term) → length (map (value_in e v) ts) ≡ length ts
+  mapped_long v [] = refl
+  mapped_long v (z ∷ ts) = ap suc (mapped_long v ts)
+
+  call_safe : (n : ℕ) (st : SymbolicState) (m : ℕ) (frame : Frame) (callers : Thread) (own : Part) (target : Option ℕ) (g : Identity) (operands : List ExpressionTree) (place : Place) (next number : ℕ) (callee : FunctionTree) (contract : ContractTree) (ts : List Term) (outs : List Outcome)
+      → (r : Ready n st (suc m) frame callers own) → slice_get f.steps n ≡ Some (Call target g operands place next) → prelude_named g ≡ None → st.names CurrentThread ≡ Some (Variable CurrentThread) → function_named p g ≡ Some number → slice_get p.functions number ≡ Some callee
+      → HasContract e callee contract → (callee.signature.result ≡ Void → target ≡ None) → EvaluatesAll e st.path st.locals operands ts → length ts ≡ contract.parameters
+      → EntailsAll e st.path (facts_of_types callee.signature.parameters ts) → AreSorted e st.path contract.sorts ts
+      → Consume e p contract.sorts all_of_it contract.requires_this (call_store ts) st (λ s1 st1.
+      (y : ℕ) × IsNew y all_of_it s1 [] st1 × AreFixed contract s1
+      × Produce e p contract.sorts all_of_it contract.ensures_this (stored s1 Result (symbol y)) (assuming_all st1 (facts_of_result callee.signature.result (symbol y)))
+      (λ s2 st2. IsAmong outs s2 (receiving target (symbol y) st2)))
+      → ((s : terms.Store) (su : SymbolicState) → IsAmong outs s su → (j : ℕ) (fr : Frame) (own2 : Part) → Ready next su j fr callers own2 → Safe e p t duty j (fr ∷ callers) own2)
+      → Safe e p t duty (suc m) (frame ∷ callers) own
+  unfolding back_to
+  call_safe n st m frame callers own target g operands place next number callee contract ts outs r is outside of_thread named callee_is has to ev count types sorted consume go s rest all going frames sums fits typed shaped =
+      let v = r.symbols in
+      let ws = map (value_in e v) ts in
+      let at = here n st (suc m) frame callers own s (Call target g operands place next) r is going frames in
+      let value = evaluates_all e v st.path st.locals frame.locals operands ts ev (r.stands).path (r.stands).locals_mean in
+      let c = consumed e p contract.sorts all_of_it whole frame.locals r.names contract.requires_this (call_store ts) st _ consume v r.part r.stands (sorted_arguments v st.path contract.sorts ts sorted (r.stands).path) refl in
+      let (y, fresh, fixed, produce) = c.holds in
+      let names = completed e c.under contract.sorts has.inhabited c.store in
+      let means = completed_means e c.under contract.sorts has.inhabited c.store in
+      let inner = apart c.off c.left r.part r.kept own c.sums r.sums in
+      let thread_is : names CurrentThread ≡ values.Number (pos t) =
+          sym (means CurrentThread (Variable CurrentThread) (c.grows CurrentThread (Variable CurrentThread) (stored_own (store_of ts) CurrentThread (Variable CurrentThread))))
+          ∙ c.stays CurrentThread (Variable CurrentThread) (stored_own (store_of ts) CurrentThread (Variable CurrentThread))
+          ∙ (r.stands).names_mean CurrentThread (Variable CurrentThread) of_thread ∙ r.thread in
+      let begins : (j : ℕ) (w : Value) → slice_get ws j ≡ Some w → names (Numbered j) ≡ w = λ j w h.
+          let z = argument_at v ts j w h in
+          let there = stored_other (store_of ts) CurrentThread (Numbered j) (Variable CurrentThread) (λ x. number_thread x) ∙ z.1 in
+          sym (means (Numbered j) z.0 (c.grows (Numbered j) z.0 there)) ∙ c.stays (Numbered j) z.0 there ∙ z.2 in
+      let continues : Continues e p t duty m (at_step frame next ∷ callers) target callee.signature.result contract names inner.0 = λ j l result q2 own2 typed_result ensured typed2 sums2. (
+        (λ none. absurd (no_callers none)),
+        after_call n st m frame callers own target next callee contract outs r to go c.under c.left c.store c.state y names fresh fixed means produce c.stands inner.0 inner.1 j (less j m l) result q2 own2 typed_result ensured typed2 sums2,
+      ) in
+      let callee_safe = r.others m (omega arith) number callee contract callee_is has ws names (at_step frame next ∷ callers) target c.off inner.0 own (mapped_long v ts ∙ count)
+          (types_back e v callee.signature.parameters ts (all_entailed e st.path _ types v (r.stands).path)) begins thread_is (completed_sorted e c.under contract.sorts has.inhabited c.store c.sorted)
+          (c.depth, c.satisfies names means) r.typed inner.2 continues in
+      local_secure e p t duty (Safe e p t duty m) s f frame callers (Call target g operands place next) (entered number callee ws target ∷ at_step frame next ∷ callers) own rest all at outside tt
+      (call_act p s t frame callers target g operands place next number callee ws value outside named callee_is) sums fits typed shaped callee_safe
+    where
+      no_callers : {x : Frame} {xs : Thread} → (x ∷ xs) ≡ [] → ⊥
+      no_callers h = cc
+
+      number_thread : {j : ℕ} → Numbered j ≡ CurrentThread → ⊥
+      number_thread h = cc
+
+      less : (j m : ℕ) → j < m → j < suc m
+      less j m l = omega (arith, l)
+
+      after_call : (n : ℕ) (st : SymbolicState) (m : ℕ) (frame : Frame) (callers : Thread) (own : Part) (target : Option ℕ) (next : ℕ) (callee : FunctionTree) (contract : ContractTree) (outs : List Outcome) (r : Ready n st (suc m) frame callers own)
+          → (callee.signature.result ≡ Void → target ≡ None)
+          → ((s : terms.Store) (su : SymbolicState) → IsAmong outs s su → (j : ℕ) (fr : Frame) (own2 : Part) → Ready next su j fr callers own2 → Safe e p t duty j (fr ∷ callers) own2)
+          → (u : Valuation) (left : Part) (s1 : terms.Store) (st1 : SymbolicState) (y : ℕ) (names : Valuation) → IsNew y all_of_it s1 [] st1 → AreFixed contract s1 → StoreMeans e u s1 names
+          → Produce e p contract.sorts all_of_it contract.ensures_this (stored s1 Result (symbol y)) (assuming_all st1 (facts_of_result callee.signature.result (symbol y))) (λ s2 st2. IsAmong outs s2 (receiving target (symbol y) st2))
+          → StandsFor e u st1 frame.locals r.names left → (beside0 : Part) → IsSum left r.kept beside0
+          → (j : ℕ) → j < suc m → (result : Option Value) (q2 own2 : Part) → IsResult e p t duty callee.signature.result result → Ensures e contract names result q2 → IsTypedPart e p own2 → IsSum q2 beside0 own2
+          → Safe e p t duty j (state.with_result (at_step frame next) target result ∷ callers) own2
+      after_call n st m frame callers own target next callee contract outs r to go u left s1 st1 y names fresh fixed means produce stands beside0 inner j l result q2 own2 typed_result ensured typed2 sums2 =
+          let w = ensured.later in
+          let later_means : StoreMeans e u s1 w = λ x z h. means x z h ∙ sym (ensured.fixed x (fixed x z h)) in
+          let yv = result_or result (w Result) in
+          let v2 = bound u (Numbered y) yv in
+          let own_symbol_is : value_in e v2 (symbol y) ≡ yv = own_symbol u y yv in
+          let value_is : (x : Value) → result ≡ Some x → value_in e v2 (symbol y) ≡ x = λ x h. own_symbol_is ∙ result_value result (w Result) x h in
+          let means2 = with_result_means v2 s1 w (symbol y) result (fresh_store e u y yv s1 w fresh.store later_means) own_symbol_is in
+          let stands2 = assuming_all_stands e v2 st1 frame.locals r.names left _ (result_facts v2 callee.signature.result (symbol y) result typed_result value_is) (stands_fresh e u y yv st1 frame.locals r.names left fresh.state stands) in
+          let inside = together q2 left r.kept beside0 own2 inner sums2 in
+          let o = produced e p contract.sorts all_of_it whole (ensured.satisfies).0 frame.locals r.names contract.ensures_this (stored s1 Result (symbol y)) (assuming_all st1 (facts_of_result callee.signature.result (symbol y)))
+              (λ s2 st2. IsAmong outs s2 (receiving target (symbol y) st2)) produce v2 (with_result w result) q2 left inside.0 stands2 means2 (with_result_sorted w contract.sorts result ensured.sorts) refl positive_whole (ensured.satisfies).1
+              (typed_of_left e p q2 beside0 own2 sums2 typed2) inside.1 in
+          let symbol_is : (x : Value) → result ≡ Some x → value_in e o.under (symbol y) ≡ x = λ x h. o.means Result (symbol y) (o.grows Result (symbol y) (stored_own s1 Result (symbol y))) ∙ result_bound w result x h in
+          go o.store (receiving target (symbol y) o.state) o.holds j (state.with_result (at_step frame next) target result) own2
+          (resumed n next st o.state m j frame callers own own2 r target result (symbol y) callee.signature.result o.under inside.0 l typed_result to symbol_is o.stands typed2 inside.2)
+
+  -- ---- the whole body
+  pub body_safe : {n : ℕ} {st : SymbolicState} → Accepts e p f k n st → (m : ℕ) (frame : Frame) (callers : Thread) (own : Part) → Ready n st m frame callers own → Safe e p t duty m (frame ∷ callers) own
+  body_safe d zero frame callers own r = tt
+  body_safe {n} {st} (do_set x a next u is ev go) (suc m) frame callers own r = set_safe n st m frame callers own x a next u r is ev (λ k0. body_safe go m _ callers own k0)
+  body_safe {n} {st} (do_if c a b y_step n_step u w is ea eb ca cb yes_go no_go) (suc m) frame callers own r =
+      if_safe n st m frame callers own c a b y_step n_step u w r is ea eb ca cb (λ k0. body_safe yes_go m _ callers own k0) (λ k0. body_safe no_go m _ callers own k0)
+  body_safe {n} {st} (do_load x a field place next u z content c others is ev taken head arguments equal go) (suc m) frame callers own r =
+      load_safe n st m frame callers own x a field place next u z content c others r is ev taken head arguments equal (λ k0. body_safe go m _ callers own k0)
+  body_safe {n} {st} (do_store a b field place next u z w old c others is ea eb taken head arguments equal types go) (suc m) frame callers own r =
+      store_safe n st m frame callers own a b field place next u z w old c others r is ea eb taken head arguments equal types (λ own' k0. body_safe go m _ callers own' k0)
+  body_safe {n} {st} (do_allocate x g next y is fresh denied_go granted_go) (suc m) frame callers own r =
+      allocate_safe n st m frame callers own x g next y r is fresh (λ k0. body_safe denied_go m _ callers own k0) (λ b own' k0. body_safe granted_go m _ callers own' k0)
+  body_safe {n} {st} (do_free_null a g place next u is ev null go) (suc m) frame callers own r = free_null_safe n st m frame callers own a g place next u r is ev null (λ k0. body_safe go m _ callers own k0)
+  body_safe {n} {st} (do_free a g place next u left is ev taken go) (suc m) frame callers own r = free_safe n st m frame callers own a g place next u left r is ev taken (λ own' k0. body_safe go m _ callers own' k0)
+  body_safe {n} {st} (do_call target g operands place next number callee contract ts outs is outside of_thread named callee_is has to ev count types sorted consume go) (suc m) frame callers own r =
+      call_safe n st m frame callers own target g operands place next number callee contract ts outs r is outside of_thread named callee_is has to ev count types sorted consume (λ s su among j fr own2 k0. body_safe (go s su among) j fr callers own2 k0)
+  body_safe {n} {st} (do_return a u is ev facts value_type consume) (suc m) frame callers own r = return_safe n st m frame callers own a u r is ev facts value_type consume
+  body_safe {n} {st} (do_leave is no_value consume) (suc m) frame callers own r = leave_safe n st m frame callers own r is no_value consume
+  body_safe {n} {st} (may_drop never) (suc m) frame callers own r = absurd (never.by r.symbols (r.stands).path)
+  body_safe {n} {st} (may_change {new} changed go) (suc m) frame callers own r =
+      body_safe go (suc m) frame callers own (restated n st new (suc m) frame callers own r r.symbols (changes_stand e r.symbols changed frame.locals r.names r.part r.stands))
+  body_safe {n} {st} (may_open outs opens go) (suc m) frame callers own r =
+      let o = opening_keeps e p st outs opens frame.locals r.names r.symbols r.part r.stands (typed_of_left e p r.part r.kept own r.sums r.typed) in
+      body_safe (go o.store o.state o.among) (suc m) frame callers own (restated n st o.state (suc m) frame callers own r o.under o.stands)
+  body_safe {n} {st} (may_close outs closes go) (suc m) frame callers own r =
+      let o = closing_keeps e p st outs closes frame.locals r.names r.symbols r.part r.stands in
+      body_safe (go o.store o.state o.among) (suc m) frame callers own (restated n st o.state (suc m) frame callers own r o.under o.stands)
