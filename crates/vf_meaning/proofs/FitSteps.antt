@@ -24,7 +24,7 @@ none_some e = cc
 some_same : {A : Type 0} {x y : A} → Some x ≡ Some y → x ≡ y
 some_same e = cc
 
-same_or_other : (k l : Location) → (k ≡ l) ⊎ (k ≢ l)
+pub same_or_other : (k l : Location) → (k ≡ l) ⊎ (k ≢ l)
 same_or_other k l = elim (cases_Bool (same_location k l)) [ inl t ↦ inl ((tells_locations k l).0 t) | inr t ↦ inr (λ e. false≢true (sym t ∙ (tells_locations k l).1 e)) ]
 
 -- ---- what is owned is there
@@ -34,10 +34,10 @@ there_is p l None c h x = absurd (not_nought (p l c) (h c) x)
 there_is p l (Some d) c h x = ap Some (sym (just_one p l d whole h c x))
 
 -- whether two identities are one, in both ways
-identities : (g h : Identity) → ((same_identity g h ≡ true) × (g ≡ h)) ⊎ (same_identity g h ≡ false)
+pub identities : (g h : Identity) → ((same_identity g h ≡ true) × (g ≡ h)) ⊎ (same_identity g h ≡ false)
 identities g h = elim (cases_Bool (same_identity g h)) [ inl t ↦ inl (t, (bytes_decides g h).0 t) | inr t ↦ inr t ]
 
-own_identity : (g : Identity) → same_identity g g ≡ true
+pub own_identity : (g : Identity) → same_identity g g ≡ true
 own_identity g = (bytes_decides g g).1 refl
 
 held_cell : (o : Option (Option Value)) (held : Option Value) → cell_content o ≡ Some (CellOf held) → o ≡ Some held
@@ -145,7 +145,7 @@ pub handles_are_there : HandlesAreThere
 handles_are_there p m b run argument info f x = handle_there p b run argument info (block_at m b) (f (HandleAt b)) x
 
 -- ---- a memory with another block
-block_here : (m : Memory) (b : ℕ) (block : Block) → block_at (finite.insert m b block) b ≡ Some block
+pub block_here : (m : Memory) (b : ℕ) (block : Block) → block_at (finite.insert m b block) b ≡ Some block
 block_here m b block = finite.get-insert nat_cmp_total m b block b ∙ ap (λ t. cond t (Some block) (block_at m b)) (own_number b)
   where
     own_number : (b : ℕ) → eq_by_cmp nat_cmp b b ≡ true
@@ -154,16 +154,16 @@ block_here m b block = finite.get-insert nat_cmp_total m b block b ∙ ap (λ t.
 other_number : (b c : ℕ) → (c ≡ b → ⊥) → eq_by_cmp nat_cmp c b ≡ false
 other_number b c h = grind (arith, nat_tests)
 
-block_elsewhere : (m : Memory) (b c : ℕ) (block : Block) → (c ≡ b → ⊥) → block_at (finite.insert m b block) c ≡ block_at m c
+pub block_elsewhere : (m : Memory) (b c : ℕ) (block : Block) → (c ≡ b → ⊥) → block_at (finite.insert m b block) c ≡ block_at m c
 block_elsewhere m b c block h = finite.get-insert nat_cmp_total m b block c ∙ ap (λ t. cond t (Some block) (block_at m c)) (other_number b c h)
 
-removed_here : (m : Memory) (b : ℕ) → block_at (finite.remove m b) b ≡ None
+pub removed_here : (m : Memory) (b : ℕ) → block_at (finite.remove m b) b ≡ None
 removed_here m b = finite.get-remove nat_cmp_total m b b ∙ ap (λ t. cond t None (block_at m b)) (own_number b)
   where
     own_number : (b : ℕ) → eq_by_cmp nat_cmp b b ≡ true
     own_number b = grind (arith, nat_tests)
 
-removed_elsewhere : (m : Memory) (b c : ℕ) → (c ≡ b → ⊥) → block_at (finite.remove m b) c ≡ block_at m c
+pub removed_elsewhere : (m : Memory) (b c : ℕ) → (c ≡ b → ⊥) → block_at (finite.remove m b) c ≡ block_at m c
 removed_elsewhere m b c h = finite.get-remove nat_cmp_total m b c ∙ ap (λ t. cond t None (block_at m c)) (other_number b c h)
 
 -- ---- fitting goes by what is owned at a block
@@ -225,7 +225,7 @@ fit_same p q block (HeldAt b) same h = held_fit_same p q b block same h
 fit_same p q block (HandleAt b) same h = handle_fit_same p q b block same h
 
 -- nothing is owned where there is no block
-none_there : (p : Part) (l : Location) → HasNone p l → FitsAt p None l
+pub none_there : (p : Part) (l : Location) → HasNone p l → FitsAt p None l
 none_there p (FieldCell b g i) h = h
 none_there p (IndexCell b i) h = h
 none_there p (StructBlock b g) h = h
@@ -234,7 +234,7 @@ none_there p (MutexAt b) h = h
 none_there p (HeldAt b) h = h
 none_there p (HandleAt b) h = h
 
-there_none : (p : Part) (l : Location) → FitsAt p None l → HasNone p l
+pub there_none : (p : Part) (l : Location) → FitsAt p None l → HasNone p l
 there_none p (FieldCell b g i) h = h
 there_none p (IndexCell b i) h = h
 there_none p (StructBlock b g) h = h
@@ -248,14 +248,14 @@ there_none p (HandleAt b) h = h
 pub other_block : (m : Memory) (b : ℕ) (block : Block) (p q : Part) (l : Location) → block_of l ≢ b → OwnsSame p q (block_of l) → FitsAt p (block_at m (block_of l)) l → FitsAt q (block_at (finite.insert m b block) (block_of l)) l
 other_block m b block p q l other same h = subst (λ o. FitsAt q o l) (sym (block_elsewhere m b (block_of l) block other)) (fit_same p q (block_at m (block_of l)) l same h)
 
-sum_right : (x y : Dyadic) → x ≡ nought → sum x y ≡ y
+pub sum_right : (x y : Dyadic) → x ≡ nought → sum x y ≡ y
 sum_right x y h = ap (λ z. sum z y) h ∙ nought_adds_nothing y
 
-sum_left : (x y : Dyadic) → y ≡ nought → sum x y ≡ x
+pub sum_left : (x y : Dyadic) → y ≡ nought → sum x y ≡ x
 sum_left x y h = ap (sum x) h ∙ sum_commutes x nought ∙ nought_adds_nothing x
 
 -- beside what is all of a block nothing of it is owned
-beside : (q f p : Part) (l : Location) (m : Memory) (c : Content) → IsSum q f p → Fits p m → q l c ≡ whole → HasNone f l
+pub beside : (q f p : Part) (l : Location) (m : Memory) (c : Content) → IsSum q f p → Fits p m → q l c ≡ whole → HasNone f l
 beside q f p l m c s h w d = whole_is_alone q f p m l c d s h w
 
 -- ---- a cell is written
@@ -276,7 +276,7 @@ set_length [] i y = refl
 set_length (x ∷ xs) zero y = refl
 set_length (x ∷ xs) (suc i) y = ap suc (set_length xs i y)
 
-single_nought : (l k : Location) (c d : Content) (x : Dyadic) → k ≢ l → single l c x k d ≡ nought
+pub single_nought : (l k : Location) (c d : Content) (x : Dyadic) → k ≢ l → single l c x k d ≡ nought
 single_nought l k c d x h = elim (nought_or_positive (single l c x k d)) [ inl e ↦ e | inr y ↦ absurd (h (single_only l c x k d y).0) ]
 
 -- one location for another beside a part that has none of either
@@ -286,7 +286,7 @@ module _ (l k : Location) (c d : Content) (x y : Dyadic) (f all : Part) (sums : 
       sum_at (single l c x) f all sums n e ∙ sum_right (single l c x n e) (f n e) (single_nought l n c e x h)
       ∙ sym (⊕-at (single k d y) f n e ∙ sum_right (single k d y n e) (f n e) (single_nought k n d e y j))
 
-new_sum : (k : Location) (d : Content) (y : Dyadic) (f : Part) → HasNone f k → IsSum (single k d y) f (single k d y ⊕ f)
+pub new_sum : (k : Location) (d : Content) (y : Dyadic) (f : Part) → HasNone f k → IsSum (single k d y) f (single k d y ⊕ f)
 new_sum k d y f h = record { agree = λ l c e u w. absurd (not_nought (f k e) (h e) (subst (λ z. IsPositive (f z e)) (single_only k d y l c u).0 w)); adds = refl }
 
 new_just : (k : Location) (d : Content) (y : Dyadic) (f : Part) → HasNone f k → HasJust (single k d y ⊕ f) k d y

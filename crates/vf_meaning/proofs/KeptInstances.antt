@@ -175,7 +175,7 @@ keeps k call g sorts parameters callee claimed of_type number of_sorts = record 
   passed = nothing;
   required = true_holds environment (for_call g call);
   sums = nothing_is_neutral nothing;
-  back = λ j result returns. (nothing, true_holds environment (with_result (for_call g call) result), nothing_is_neutral nothing);
+  back = λ j result returns. (nothing, record { later = for_call g call; fixed = λ x h. refl; sorts = of_sorts; satisfies = true_holds environment (with_result (for_call g call) result) }, nothing_is_neutral nothing);
 }
 
 no_sorts : (v : Valuation) → AreOfSorts environment v []
@@ -293,7 +293,7 @@ kept = record {
   changes = λ k event is. record { threads = λ u other known same. refl; mutexes = λ b same. refl };
   calls = calls_kept;
   starts = starts_kept;
-  ensured = λ j event result is main returns last. true_holds environment (with_result (λ x. no_value) result);
+  ensured = λ j event result is main returns last. record { later = λ x. no_value; fixed = λ x h. refl; sorts = no_sorts (λ x. no_value); satisfies = true_holds environment (with_result (λ x. no_value) result) };
 }
 
 -- ---- the call, its return, the start and the end of the thread

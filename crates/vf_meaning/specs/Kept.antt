@@ -1,5 +1,5 @@
 -- What a list of events keeps: share-outs from state to state, contracts of calls through pointers and of threads, and main's contract.
-use Rattle.std.specs.Prelude.{◌≡◌, ◌≢◌, ℕ, suc, ◌<◌, ◌≤◌, pos, IsTrue, List, [], ◌∷◌, take, length, slice_get, Option, Some, None, codes}
+use Rattle.std.specs.Prelude.{◌≡◌, ◌≢◌, ◌⊎◌, ℕ, suc, ◌<◌, ◌≤◌, pos, IsTrue, List, [], ◌∷◌, take, length, slice_get, Option, Some, None, codes}
 use Rattle.vf_base.specs.declared.place.Place.{Place}
 use Rattle.vf_tree.specs.Core.{Identity, Signature, ExpressionTree, StepTree, Call, CallPointer, Return, FunctionTree, ProgramTree}
 use Rattle.vf_model.specs.declared.words.Event.{Event}
@@ -13,9 +13,10 @@ use Rattle.vf_model.specs.Evaluation.{Gives, evaluate, evaluate_all}
 use Rattle.vf_model.specs.Races.{Race}
 use Rattle.vf_model.specs.Runs.{after, can_step, reach, Fault}
 use Rattle.vf_meaning.specs.Fractions.{whole}
-use Rattle.vf_meaning.specs.Ghost.{Result, This, CurrentThread}
+use Rattle.vf_meaning.specs.Ghost.{Name, Numbered, Result, This, CurrentThread}
 use Rattle.vf_meaning.specs.Valuations.{Valuation, in_row, count, bound}
 use Rattle.vf_meaning.specs.Assertions.{ContractTree, Environment}
+use Rattle.vf_meaning.specs.Names.{UsesIn}
 use Rattle.vf_meaning.specs.Sorts.{AreOfSorts}
 use Rattle.vf_meaning.specs.Parts.{Part, nothing, IsSum}
 use Rattle.vf_meaning.specs.Satisfaction.{BeginsWith, Satisfies}
@@ -130,6 +131,20 @@ pub record IsFor (e : Environment) (contract : ContractTree) (call : Promise) (g
   pub begins : BeginsWith v call.arguments
   pub sorts : AreOfSorts e v contract.sorts
 
+-- a name has its value when a call begins: a parameter, a name of the precondition, the called function and the thread
+abbrev pub IsFixed : ContractTree → Name → Type 0
+IsFixed contract (Numbered k) = (k < contract.parameters) ⊎ UsesIn contract.requires_this (Numbered k)
+IsFixed contract Result = ⊥
+IsFixed contract This = Unit {0}
+IsFixed contract CurrentThread = Unit {0}
+
+-- A part satisfies a contract's postcondition with what was returned, under a valuation that gives each name its value from the beginning of the call, if it has one, and to every other name some value of its sort
+pub record Ensures (e : Environment) (contract : ContractTree) (under : Valuation) (result : Option Value) (p : Part) : Type 0 where
+  pub later : Valuation
+  pub fixed : (x : Name) → IsFixed contract x → later x ≡ under x
+  pub sorts : AreOfSorts e later contract.sorts
+  pub satisfies : Satisfies e whole contract.ensures_this (with_result later result) p
+
 -- A call keeps its type's contract: the called value is a function that claims the type; after the call the thread's part is a part that satisfies the precondition, and a rest; and after its return it is a part that satisfies the postcondition, and the same rest
 pub record IsKept (e : Environment) (p : ProgramTree) (events : List Event) (outs : ℕ → ShareOut) (k : ℕ) (call : Promise) (rest : Part) : Type 0 where
   pub function : Identity
@@ -143,7 +158,7 @@ pub record IsKept (e : Environment) (p : ProgramTree) (events : List Event) (out
   pub required : Satisfies e whole contract.requires_this under passed
   pub sums : IsSum passed rest ((outs (suc k)).threads call.thread)
   pub back : (j : ℕ) (result : Option Value) → ReturnsFrom p events k call j result
-      → (given : Part) × Satisfies e whole contract.ensures_this (with_result under result) given × IsSum given rest ((outs (suc j)).threads call.thread)
+      → (given : Part) × Ensures e contract under result given × IsSum given rest ((outs (suc j)).threads call.thread)
 
 -- an event of a thread changes only that thread's part and the leaked one, the part of a thread that it starts or joins, and the part of a mutex whose state it changes
 pub record ChangesOnly (s new : State) (t : ℕ) (o next : ShareOut) : Type 0 where
@@ -170,7 +185,7 @@ pub record Kept (e : Environment) (p : ProgramTree) (events : List Event) : Type
   pub starts : (k : ℕ) (event : Event) (call : Promise) → slice_get events k ≡ Some event → StartsThread p (before p events k) event call → IsKept e p events outs k call nothing
   pub ensured : (j : ℕ) (event : Event) (result : Option Value)
       → slice_get events j ≡ Some event → event.thread ≡ 0 → Returns p (before p events j) 0 result → depth (before p events j) 0 ≡ 1
-      → Satisfies e whole contract.ensures_this (with_result under result) ((outs (suc j)).threads 0)
+      → Ensures e contract under result ((outs (suc j)).threads 0)
 
 -- no state that a list of events comes to has a fault of any thread, or a race
 pub record IsSafe (p : ProgramTree) (events : List Event) : Type 0 where

@@ -10,3 +10,4 @@ pub mod CaseNames
 pub mod Consumes
 pub mod Told
 pub mod Opening
+pub mod Evaluates

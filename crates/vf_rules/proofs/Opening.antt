@@ -157,7 +157,7 @@ sorted_or : (e : Environment) (sorts : List Sort) → AreInhabited e sorts → (
 sorted_or e sorts h k None is = no_value
 sorted_or e sorts h k (Some s) is = (h k s is).0
 
-completed : (e : Environment) (v : Valuation) (sorts : List Sort) → AreInhabited e sorts → Store → Valuation
+pub completed : (e : Environment) (v : Valuation) (sorts : List Sort) → AreInhabited e sorts → Store → Valuation
 completed e v sorts h s (Numbered k) = completed_at e v (s (Numbered k)) (sorted_or e sorts h k (slice_get sorts k) refl)
 completed e v sorts h s x = completed_at e v (s x) no_value
 
@@ -165,7 +165,7 @@ is_completed : (e : Environment) (v : Valuation) (o : Option Term) (u : Value) (
 unfolding completed_at
 is_completed e v o u t h = ap (λ z. completed_at e v z u) (sym h)
 
-completed_means : (e : Environment) (v : Valuation) (sorts : List Sort) (h : AreInhabited e sorts) (s : Store) → StoreMeans e v s (completed e v sorts h s)
+pub completed_means : (e : Environment) (v : Valuation) (sorts : List Sort) (h : AreInhabited e sorts) (s : Store) → StoreMeans e v s (completed e v sorts h s)
 unfolding completed
 completed_means e v sorts h s (Numbered k) t is = is_completed e v (s (Numbered k)) _ t is
 completed_means e v sorts h s Result t is = is_completed e v (s Result) _ t is
@@ -188,7 +188,7 @@ unfolding completed_at
 completed_sorted_at e v None u so h k = k
 completed_sorted_at e v (Some t) u so h k = h t refl
 
-completed_sorted : (e : Environment) (v : Valuation) (sorts : List Sort) (h : AreInhabited e sorts) (s : Store) → StoreSorted e v sorts s → AreOfSorts e (completed e v sorts h s) sorts
+pub completed_sorted : (e : Environment) (v : Valuation) (sorts : List Sort) (h : AreInhabited e sorts) (s : Store) → StoreSorted e v sorts s → AreOfSorts e (completed e v sorts h s) sorts
 unfolding completed
 completed_sorted e v sorts h s so k b known =
     completed_sorted_at e v (s (Numbered k)) _ b (λ t is. so k b t is known) (sorted_at e v sorts h k b known (slice_get sorts k) refl)
@@ -197,7 +197,7 @@ counted_row : (us : List Value) → count (in_row us) ≡ length us
 counted_row [] = refl
 counted_row (u ∷ us) = ap suc (counted_row us)
 
-mapped_length : (e : Environment) (v : Valuation) (ts : List Term) → length (map (value_in e v) ts) ≡ length ts
+pub mapped_length : (e : Environment) (v : Valuation) (ts : List Term) → length (map (value_in e v) ts) ≡ length ts
 mapped_length e v [] = refl
 mapped_length e v (t ∷ ts) = ap suc (mapped_length e v ts)
 

@@ -8,3 +8,5 @@ pub mod Consume
 pub mod Laws
 pub mod Predicates
 pub mod PredicateLaws
+pub mod Evaluate
+pub mod Accept

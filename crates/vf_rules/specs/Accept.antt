@@ -1,0 +1,162 @@
+-- When the body of a function is accepted: a rule for each core step, and rules for what annotations do between them.
+use Rattle.std.specs.Prelude.{◌≡◌, ◌⊎◌, ℕ, zero, suc, ◌≤◌, ◌-◌, ◌≢◌, List, [], ◌∷◌, ◌++◌, map, replicate, length, drop, slice_get, slice_set, Option, Some, None}
+use Rattle.vf_base.specs.declared.place.Place.{Place}
+use Rattle.vf_tree.specs.Core.{Identity, Field, TypeTree, Void, ExpressionTree, Comparison, StepTree, Set, Load, Store, Allocate, Free, Call, If, Return, FunctionTree, ProgramTree, NotEqual}
+use Rattle.vf_model.specs.Accesses.{field_count}
+use Rattle.vf_model.specs.State.{function_named}
+use Rattle.vf_model.specs.PreludeFunctions.{PreludeFunction, prelude_named}
+use Rattle.vf_meaning.specs.Fractions.{whole}
+use Rattle.vf_meaning.specs.Ghost.{Sort, Name, Pointers, Result, CurrentThread, Variable, Null, Not, Compare, Fraction}
+use Rattle.vf_meaning.specs.Kept.{IsFixed}
+use Rattle.vf_meaning.specs.Assertions.{BlockOf, ContractTree, Environment}
+use Rattle.vf_rules.specs.Terms.{Term, stored}
+use Rattle.vf_rules.specs.Terms as terms
+use Rattle.vf_rules.specs.States.{Fact, Holds, OfSort, CellOf, Of, SymbolicChunk, SymbolicState, Entails, Infeasible, assuming, assuming_all, with_chunks}
+use Rattle.vf_rules.specs.Fresh.{symbol, IsNew, IsFresh}
+use Rattle.vf_rules.specs.Types.{type_of_field, facts_of_type}
+use Rattle.vf_rules.specs.Produce.{Produce}
+use Rattle.vf_rules.specs.Take.{same, Takes, Removes, Changes}
+use Rattle.vf_rules.specs.Consume.{EntailsAll, Consume}
+use Rattle.vf_rules.specs.Laws.{Outcome, IsAmong}
+use Rattle.vf_rules.specs.Predicates.{store_of, AreInhabited, AreSorted, Opens, Closes}
+use Rattle.vf_rules.specs.Evaluate.{Evaluates, EvaluatesAll, IsOfC}
+
+-- the share 1, as a term
+abbrev pub all_of_it : Term
+all_of_it = Fraction whole
+
+-- the state with a term in a local
+abbrev pub with_local : SymbolicState → ℕ → Term → SymbolicState
+with_local st x t = record st { locals = slice_set st.locals x (Some t) }
+
+-- the state with a call's result in the local that wants it, if one does
+abbrev pub receiving : Option ℕ → Term → SymbolicState → SymbolicState
+receiving None t st = st
+receiving (Some x) t st = with_local st x t
+
+-- the cell of a field with a pointer and a content
+abbrev pub cell_chunk : Field → Term → Option Term → SymbolicChunk
+cell_chunk f pointer content = record { share = all_of_it; head = CellOf f; arguments = Some pointer ∷ content ∷ [] }
+
+-- the block of a struct
+abbrev pub block_chunk : Identity → Term → SymbolicChunk
+block_chunk g pointer = record { share = all_of_it; head = Of (BlockOf g); arguments = Some pointer ∷ [] }
+
+-- the field of a struct by its place
+abbrev pub field_at : Identity → ℕ → Field
+field_at g i = record { structure = g; index = i }
+
+-- n cells of a new struct from a field on, of unknown content, and then its block
+abbrev pub new_chunks : Identity → Term → ℕ → ℕ → List SymbolicChunk
+new_chunks g t i zero = block_chunk g t ∷ []
+new_chunks g t i (suc n) = cell_chunk (field_at g i) t None ∷ new_chunks g t (suc i) n
+
+-- the whole of each of n cells of a struct from a field on, and then of its block, is taken, one after the other
+abbrev pub TakesFields : Environment → List Fact → Identity → Term → ℕ → ℕ → List SymbolicChunk → List SymbolicChunk → Type 0
+TakesFields e path g t i zero cs ds =
+    (c : SymbolicChunk) × (u : Term) × Takes e path all_of_it c cs ds × (c.head ≡ Of (BlockOf g)) × (c.arguments ≡ Some u ∷ []) × Entails e path (same t u)
+TakesFields e path g t i (suc n) cs ds =
+    (c : SymbolicChunk) × (mid : List SymbolicChunk) × (u : Term) × (content : Option Term) × Takes e path all_of_it c cs mid
+    × (c.head ≡ CellOf (field_at g i)) × (c.arguments ≡ Some u ∷ content ∷ []) × Entails e path (same t u) × TakesFields e path g t (suc i) n mid ds
+
+-- facts of several types, of terms one by one
+abbrev pub facts_of_types : List TypeTree → List Term → List Fact
+facts_of_types (t ∷ types) (u ∷ us) = facts_of_type t u ++ facts_of_types types us
+facts_of_types _ _ = []
+
+-- what is known of the term that a call returns
+abbrev pub facts_of_result : TypeTree → Term → List Fact
+facts_of_result type t = facts_of_type type t
+
+-- the sorts of terms, one by one
+abbrev pub facts_of_sorts : List Sort → List Term → List Fact
+facts_of_sorts (s ∷ sorts) (u ∷ us) = OfSort u s ∷ facts_of_sorts sorts us
+facts_of_sorts _ _ = []
+
+-- the store of a contract at a call: the arguments, and the thread
+abbrev pub call_store : List Term → terms.Store
+call_store ts = stored (store_of ts) CurrentThread (Variable CurrentThread)
+
+-- the contract of a function, with what a call of it needs: as many parameters, and sorts that have values
+pub record HasContract (e : Environment) (f : FunctionTree) (k : ContractTree) : Type 0 where
+  pub known : e.functions f.identity ≡ Some k
+  pub parameters : k.parameters ≡ length f.signature.parameters
+  pub fewer : length f.signature.parameters ≤ length f.locals
+  pub inhabited : AreInhabited e k.sorts
+
+-- each name that a store binds has its value when a call begins
+abbrev pub AreFixed : ContractTree → terms.Store → Type 0
+AreFixed k s = (x : Name) (t : Term) → s x ≡ Some t → IsFixed k x
+
+-- a later store binds no other name that has its value when a call begins
+abbrev pub KeepsFixed : ContractTree → terms.Store → terms.Store → Type 0
+KeepsFixed k s r = (x : Name) (t : Term) → IsFixed k x → r x ≡ Some t → s x ≡ Some t
+
+-- A body is accepted from a step on, in a state. `do_` are the rules of core steps, `may_` those of what annotations do, or of a state that cannot be
+pub data Accepts (e : Environment) (p : ProgramTree) (f : FunctionTree) (k : ContractTree) : ℕ → SymbolicState → Type 0 where
+  do_set : {n : ℕ} {st : SymbolicState} (x : ℕ) (a : ExpressionTree) (next : ℕ) (t : Term) → slice_get f.steps n ≡ Some (Set x a next) → Evaluates e st.path st.locals a t
+      → Accepts e p f k next (with_local st x t) → Accepts e p f k n st
+  do_if : {n : ℕ} {st : SymbolicState} (c : Comparison) (a b : ExpressionTree) (yes_step no_step : ℕ) (t u : Term) → slice_get f.steps n ≡ Some (If c a b yes_step no_step)
+      → Evaluates e st.path st.locals a t → Evaluates e st.path st.locals b u → IsOfC e st.path t → IsOfC e st.path u
+      → Accepts e p f k yes_step (assuming st (Holds (Compare c t u))) → Accepts e p f k no_step (assuming st (Holds (Not (Compare c t u)))) → Accepts e p f k n st
+  do_load : {n : ℕ} {st : SymbolicState} (x : ℕ) (a : ExpressionTree) (field : Field) (place : Place) (next : ℕ) (t u content : Term) (c : SymbolicChunk) (others : List SymbolicChunk)
+      → slice_get f.steps n ≡ Some (Load x a field place next) → Evaluates e st.path st.locals a t
+      → Removes c st.chunks others → c.head ≡ CellOf field → c.arguments ≡ Some u ∷ Some content ∷ [] → Entails e st.path (same t u)
+      → Accepts e p f k next (with_local st x content) → Accepts e p f k n st
+  do_store : {n : ℕ} {st : SymbolicState} (a b : ExpressionTree) (field : Field) (place : Place) (next : ℕ) (t u w : Term) (old : Option Term) (c : SymbolicChunk) (others : List SymbolicChunk)
+      → slice_get f.steps n ≡ Some (Store a field b place next) → Evaluates e st.path st.locals a t → Evaluates e st.path st.locals b w
+      → Takes e st.path all_of_it c st.chunks others → c.head ≡ CellOf field → c.arguments ≡ Some u ∷ old ∷ [] → Entails e st.path (same t u)
+      → ((type : TypeTree) → type_of_field p field.structure field.index ≡ Some type → EntailsAll e st.path (facts_of_type type w) × (type ≢ Void))
+      → Accepts e p f k next (with_chunks st (others ++ cell_chunk field t (Some w) ∷ [])) → Accepts e p f k n st
+  do_allocate : {n : ℕ} {st : SymbolicState} (x : ℕ) (g : Identity) (next y : ℕ) → slice_get f.steps n ≡ Some (Allocate x g next) → IsFresh y st
+      → Accepts e p f k next (with_local st x Null)
+      → Accepts e p f k next (with_local (assuming_all (with_chunks st (st.chunks ++ new_chunks g (symbol y) 0 (field_count p g))) (OfSort (symbol y) Pointers ∷ Holds (Compare NotEqual (symbol y) Null) ∷ [])) x (symbol y))
+      → Accepts e p f k n st
+  do_free_null : {n : ℕ} {st : SymbolicState} (a : ExpressionTree) (g : Identity) (place : Place) (next : ℕ) (t : Term) → slice_get f.steps n ≡ Some (Free a g place next)
+      → Evaluates e st.path st.locals a t → Entails e st.path (same t Null) → Accepts e p f k next st → Accepts e p f k n st
+  do_free : {n : ℕ} {st : SymbolicState} (a : ExpressionTree) (g : Identity) (place : Place) (next : ℕ) (t : Term) (left : List SymbolicChunk) → slice_get f.steps n ≡ Some (Free a g place next)
+      → Evaluates e st.path st.locals a t → TakesFields e st.path g t 0 (field_count p g) st.chunks left
+      → Accepts e p f k next (with_chunks st left) → Accepts e p f k n st
+  do_call : {n : ℕ} {st : SymbolicState} (target : Option ℕ) (g : Identity) (operands : List ExpressionTree) (place : Place) (next number : ℕ) (callee : FunctionTree) (contract : ContractTree) (ts : List Term) (outs : List Outcome)
+      → slice_get f.steps n ≡ Some (Call target g operands place next) → prelude_named g ≡ None → st.names CurrentThread ≡ Some (Variable CurrentThread) → function_named p g ≡ Some number → slice_get p.functions number ≡ Some callee
+      → HasContract e callee contract → (callee.signature.result ≡ Void → target ≡ None) → EvaluatesAll e st.path st.locals operands ts → length ts ≡ contract.parameters
+      → EntailsAll e st.path (facts_of_types callee.signature.parameters ts) → AreSorted e st.path contract.sorts ts
+      → Consume e p contract.sorts all_of_it contract.requires_this (call_store ts) st (λ s1 st1.
+      (y : ℕ) × IsNew y all_of_it s1 [] st1 × AreFixed contract s1
+      × Produce e p contract.sorts all_of_it contract.ensures_this (stored s1 Result (symbol y)) (assuming_all st1 (facts_of_result callee.signature.result (symbol y)))
+      (λ s2 st2. IsAmong outs s2 (receiving target (symbol y) st2)))
+      → ((s : terms.Store) (su : SymbolicState) → IsAmong outs s su → Accepts e p f k next su) → Accepts e p f k n st
+  do_return : {n : ℕ} {st : SymbolicState} (a : ExpressionTree) (t : Term) → slice_get f.steps n ≡ Some (Return (Some a)) → Evaluates e st.path st.locals a t
+      → EntailsAll e st.path (facts_of_result f.signature.result t) → f.signature.result ≢ Void
+      → Consume e p k.sorts all_of_it k.ensures_this (stored st.names Result t) st (λ s1 st1. (st1.chunks ≡ []) × KeepsFixed k st.names s1) → Accepts e p f k n st
+  do_leave : {n : ℕ} {st : SymbolicState} → slice_get f.steps n ≡ Some (Return None) → f.signature.result ≡ Void
+      → Consume e p k.sorts all_of_it k.ensures_this st.names st (λ s1 st1. (st1.chunks ≡ []) × KeepsFixed k st.names s1) → Accepts e p f k n st
+  may_drop : {n : ℕ} {st : SymbolicState} → Infeasible e st.path → Accepts e p f k n st
+  may_change : {n : ℕ} {st new : SymbolicState} → Changes e st new → Accepts e p f k n new → Accepts e p f k n st
+  may_open : {n : ℕ} {st : SymbolicState} (outs : List Outcome) → Opens e p st outs → ((s : terms.Store) (su : SymbolicState) → IsAmong outs s su → Accepts e p f k n su) → Accepts e p f k n st
+  may_close : {n : ℕ} {st : SymbolicState} (outs : List Outcome) → Closes e p st outs → ((s : terms.Store) (su : SymbolicState) → IsAmong outs s su → Accepts e p f k n su) → Accepts e p f k n st
+
+-- n symbols in a row, from a number on
+abbrev pub symbols_from : ℕ → ℕ → List Term
+symbols_from i zero = []
+symbols_from i (suc n) = symbol i ∷ symbols_from (suc i) n
+
+-- a symbol for each parameter
+abbrev pub parameter_symbols : ℕ → List Term
+parameter_symbols n = symbols_from 0 n
+
+-- the state in which a body begins: the parameters have new symbols of their types and sorts, and no other local is set
+abbrev pub beginning : FunctionTree → ContractTree → SymbolicState
+beginning f k = record {
+  locals = map (λ t. Some t) (parameter_symbols (length f.signature.parameters)) ++ replicate (length f.locals - length f.signature.parameters) None;
+  names = call_store (parameter_symbols (length f.signature.parameters));
+  chunks = [];
+  path = facts_of_types f.signature.parameters (parameter_symbols (length f.signature.parameters)) ++ facts_of_sorts k.sorts (parameter_symbols (length f.signature.parameters));
+}
+
+-- a function is accepted: its precondition is produced from nothing, and its body accepted from there, the names of the precondition being those of the postcondition
+pub record IsAcceptedFunction (e : Environment) (p : ProgramTree) (f : FunctionTree) (k : ContractTree) : Type 0 where
+  pub contract : HasContract e f k
+  pub outs : List Outcome
+  pub produced : Produce e p k.sorts all_of_it k.requires_this (call_store (parameter_symbols (length f.signature.parameters))) (beginning f k) (IsAmong outs)
+  pub body : (s : terms.Store) (st : SymbolicState) → IsAmong outs s st → Accepts e p f k 0 (record st { names = s })

@@ -1,0 +1,229 @@
+-- One step of a thread over parts of memory, with no symbolic state.
+use Rattle.std.proofs.Common.{◌≡◌, ◌≢◌, ℕ, zero, suc, Bool, true, false, cond, List, [], ◌∷◌, length, slice_get, slice_set, Option, Some, None, pos, refl, sym, ap, ap₂, subst, ◌∙◌, ◌⊎◌, inl, inr}
+use Rattle.std.specs.Prelude.{IsTrue}
+use Rattle.vf_base.specs.declared.place.Place.{Place}
+use Rattle.vf_tree.specs.Core.{Identity, Field, Signature, ExpressionTree, StepTree, Call, CallPointer, Return, FunctionTree, ProgramTree}
+use Rattle.vf_model.specs.declared.words.Event.{Event}
+use Rattle.vf_model.specs.declared.words.FaultKind.{FaultKind}
+use Rattle.vf_model.specs.Values.{Dyadic, Value}
+use Rattle.vf_model.specs.Values as values
+use Rattle.vf_model.specs.Memory.{Memory, Block, Struct, Ints, Mutex, Handle, Cell, block_at}
+use Rattle.vf_model.specs.State.{Frame, Thread, State, Turn, with_frames, over_memory}
+use Rattle.vf_model.specs.Acts.{Touch, Act, Goes, Touches, Allocates, Waits, Faults}
+use Rattle.vf_model.specs.Races.{TouchesCell}
+use Rattle.vf_model.specs.Steps.{act_of, act_at, act_in, act_by, next_act}
+use Rattle.vf_model.specs.Runs.{happens, after_unended, after}
+use Rattle.vf_model.specs.PreludeFunctions.{PreludeFunction, prelude_named}
+use Rattle.vf_meaning.specs.Fractions.{whole, IsPositive}
+use Rattle.vf_meaning.specs.Valuations.{Valuation}
+use Rattle.vf_meaning.specs.Assertions.{ContractTree, Environment}
+use Rattle.vf_meaning.specs.Parts.{Location, Content, Part, nothing, single, IsSum}
+use Rattle.vf_meaning.specs.Fits.{Fits}
+use Rattle.vf_meaning.specs.Satisfaction.{Satisfies}
+use Rattle.vf_meaning.specs.ShareOuts.{location_in, OwnsFor}
+use Rattle.vf_meaning.specs.Kept.{IsAt, Returns, Ensures, depth}
+use Rattle.vf_meaning.proofs.Parts.{sums_turn, sums_regroup, nothing_is_neutral, in_left, in_right, in_either, single_only}
+use Rattle.vf_rules.specs.Types.{IsTypedContent, IsTypedPart}
+use Rattle.vf_safety.specs.Safe.{Duty, event_of, IsShared, IsShaped, Went, Secure}
+
+some_same : {A : Type 0} {x y : A} → Some x ≡ Some y → x ≡ y
+some_same e = cc
+
+none_some : {A B : Type 0} {x : A} → None ≡ Some x → B
+none_some e = cc
+
+-- ---- lists of threads
+pub set_own : {A : Type 0} (xs : List A) (i : ℕ) (y z : A) → slice_get xs i ≡ Some z → slice_get (slice_set xs i y) i ≡ Some y
+set_own [] i y z h = none_some h
+set_own (x ∷ xs) zero y z h = refl
+set_own (x ∷ xs) (suc i) y z h = set_own xs i y z h
+
+pub set_other : {A : Type 0} (xs : List A) (i j : ℕ) (y : A) → j ≢ i → slice_get (slice_set xs i y) j ≡ slice_get xs j
+set_other [] i j y h = refl
+set_other (x ∷ xs) zero zero y h = absurd (h refl)
+set_other (x ∷ xs) zero (suc j) y h = refl
+set_other (x ∷ xs) (suc i) zero y h = refl
+set_other (x ∷ xs) (suc i) (suc j) y h = set_other xs i j y (λ e. h (ap suc e))
+
+pub set_length : {A : Type 0} (xs : List A) (i : ℕ) (y : A) → length (slice_set xs i y) ≡ length xs
+set_length [] i y = refl
+set_length (x ∷ xs) zero y = refl
+set_length (x ∷ xs) (suc i) y = ap suc (set_length xs i y)
+
+-- ---- where a thread is
+pub record Here (p : ProgramTree) (s : State) (t : ℕ) (f : FunctionTree) (frame : Frame) (callers : Thread) (step : StepTree) : Type 0 where
+  pub going : s.end ≡ None
+  pub frames : slice_get s.threads t ≡ Some (frame ∷ callers)
+  pub function : slice_get p.functions frame.function ≡ Some f
+  pub found : slice_get f.steps frame.step ≡ Some step
+
+abbrev pub turn_of : State → ℕ → Frame → Thread → Turn
+turn_of s t frame callers = record { state = s; thread = t; frame = frame; callers = callers }
+
+pub act_here : (p : ProgramTree) (s : State) (t : ℕ) (f : FunctionTree) (frame : Frame) (callers : Thread) (step : StepTree) → Here p s t f frame callers step
+    → next_act p s t ≡ act_of p (turn_of s t frame callers) step
+act_here p s t f frame callers step h =
+    ap (act_by p s t) h.frames ∙ ap (act_in p (turn_of s t frame callers)) h.function ∙ ap (act_at p (turn_of s t frame callers) f.closing) h.found
+
+pub after_here : (p : ProgramTree) (s : State) (t grant : ℕ) (act : Act) → s.end ≡ None → next_act p s t ≡ act → after p s (event_of t grant) ≡ happens s grant act
+after_here p s t grant act going is = ap (after_unended p s (event_of t grant)) going ∙ ap (happens s grant) is
+
+heads_same : {x y : Frame} {xs ys : Thread} → Some (x ∷ xs) ≡ Some (y ∷ ys) → (x ≡ y) × (xs ≡ ys)
+heads_same e = (cc, cc)
+
+-- what is known of where a thread is, is where it is
+pub record Same (f f' : FunctionTree) (frame frame' : Frame) (callers callers' : Thread) (step step' : StepTree) : Type 0 where
+  pub functions : f' ≡ f
+  pub frames : frame' ≡ frame
+  pub callers_are : callers' ≡ callers
+  pub steps : step' ≡ step
+
+pub same_place : (p : ProgramTree) (s : State) (t : ℕ) (f f' : FunctionTree) (frame frame' : Frame) (callers callers' : Thread) (step step' : StepTree) → Here p s t f frame callers step → IsAt p s t f' frame' callers' step'
+    → Same f f' frame frame' callers callers' step step'
+same_place p s t f f' frame frame' callers callers' step step' h k =
+    let heads = heads_same (sym k.frames ∙ h.frames) in
+    let functions : f' ≡ f = some_same (sym k.function ∙ ap (λ z. slice_get p.functions z.function) heads.0 ∙ h.function) in
+    record {
+      functions = functions;
+      frames = heads.0;
+      callers_are = heads.1;
+      steps = some_same (sym k.found ∙ ap (λ z. slice_get f'.steps z.step) heads.0 ∙ ap (λ z. slice_get z.steps frame.step) functions ∙ h.found);
+    }
+
+-- ---- parts of parts
+pub apart : (a r own rest all : Part) → IsSum a r own → IsSum own rest all → (f : Part) × IsSum r rest f × IsSum a f all
+apart a r own rest all h k = sums_regroup a r own rest all h k
+
+pub together : (a r rest f all : Part) → IsSum r rest f → IsSum a f all → (own : Part) × IsSum a r own × IsSum own rest all
+together a r rest f all h k =
+    let other = sums_regroup rest r f a all (sums_turn r rest f h) (sums_turn a f all k) in
+    (other.0, sums_turn r a other.0 other.1, sums_turn rest other.0 all other.2)
+
+-- ---- steps that are no call through a pointer, start no thread and do not return
+abbrev pub IsDirect : StepTree → Type 0
+IsDirect (CallPointer target pointer signature operands place next) = ⊥
+IsDirect (Call target g operands place next) = prelude_named g ≡ None
+IsDirect _ = Unit {0}
+
+abbrev pub IsInside : StepTree → Type 0
+IsInside (Return x) = ⊥
+IsInside _ = Unit {0}
+
+module _ (e : Environment) (p : ProgramTree) (t : ℕ) (duty : Duty) (S : Thread → Part → Type 0) where
+  -- a step that has an act, by what the act is
+  pub secure : (s : State) (f : FunctionTree) (frame : Frame) (callers : Thread) (step : StepTree) (own rest : Part) (act : Act) → Here p s t f frame callers step → IsDirect step
+      → act_of p (turn_of s t frame callers) step ≡ act
+      → ((kind : FaultKind) (place : Place) → act ≡ Faults kind place → ⊥)
+      → ((touch : Touch) (new : State) (c : Cell) (l : Location) → act ≡ Touches touch new → TouchesCell s.memory touch c → location_in (block_at s.memory c.block) c ≡ Some l → OwnsFor touch own l)
+      → ((grant : ℕ) → Went e p t duty S s (happens s grant act) rest) → Secure e p t duty S s own rest
+  secure s f frame callers step own rest act here direct is faultless owned goes =
+      let now : next_act p s t ≡ act = act_here p s t f frame callers step here ∙ is in
+      record {
+        faultless = λ kind place h. faultless kind place (sym now ∙ h);
+        owned = λ touch new c l h. owned touch new c l (sym now ∙ h);
+        direct = λ f' frame' callers' target pointer signature operands place next at. subst IsDirect (sym (same_place p s t f f' frame frame' callers callers' step _ here at).steps) direct;
+        unstarted = λ f' frame' callers' target g operands place next at. subst IsDirect (sym (same_place p s t f f' frame frame' callers callers' step _ here at).steps) direct;
+        goes = λ grant. subst (λ z. Went e p t duty S s z rest) (sym (after_here p s t grant act here.going now)) (goes grant);
+      }
+
+  -- inside of a body nothing is returned
+  pub not_left : (s : State) (f : FunctionTree) (frame : Frame) (callers : Thread) (step : StepTree) → Here p s t f frame callers step → IsInside step → {A : Type 0} → (result : Option Value) → Returns p s t result → A
+  not_left s f frame callers step here inside result r = absurd (subst IsInside (sym (same_place p s t f r.f frame r.frame callers r.callers step _ here r.at).steps) inside)
+
+  -- a thread with other frames and the same memory
+  pub went_local : (s : State) (f : FunctionTree) (frame : Frame) (callers : Thread) (step : StepTree) (frames : Thread) (own rest all : Part) → Here p s t f frame callers step → IsSum own rest all → Fits all s.memory → IsTypedPart e p all → IsShaped p s.memory
+      → S frames own → ((result : Option Value) → Returns p s t result → depth s t ≡ 1 → Ensures e duty.contract duty.names result own)
+      → Went e p t duty S s (with_frames (turn_of s t frame callers) frames) rest
+  went_local s f frame callers step frames own rest all here sums fits typed shaped safe leaves = record {
+    frames = frames;
+    own = own;
+    leaked = nothing;
+    others = rest;
+    all = all;
+    given_up = sums_turn nothing rest rest (nothing_is_neutral rest);
+    sums = sums;
+    fits = fits;
+    typed = typed;
+    shaped = shaped;
+    now = set_own s.threads t frames (frame ∷ callers) here.frames;
+    alone = λ u other. set_other s.threads t u frames other;
+    number = set_length s.threads t frames;
+    unshared = λ b h. refl;
+    going = λ h. safe;
+    leaves = leaves;
+  }
+
+  goes_fault : {new : State} {kind : FaultKind} {place : Place} → Goes new ≡ Faults kind place → ⊥
+  goes_fault h = cc
+
+  goes_touch : {new new' : State} {touch : Touch} {A : Type 0} → Goes new ≡ Touches touch new' → A
+  goes_touch h = cc
+
+  -- a step to other frames
+  pub local_secure : (s : State) (f : FunctionTree) (frame : Frame) (callers : Thread) (step : StepTree) (frames : Thread) (own rest all : Part) → Here p s t f frame callers step → IsDirect step → IsInside step
+      → act_of p (turn_of s t frame callers) step ≡ Goes (with_frames (turn_of s t frame callers) frames) → IsSum own rest all → Fits all s.memory → IsTypedPart e p all → IsShaped p s.memory → S frames own → Secure e p t duty S s own rest
+  local_secure s f frame callers step frames own rest all here direct inside is sums fits typed shaped safe =
+      secure s f frame callers step own rest (Goes (with_frames (turn_of s t frame callers) frames)) here direct is
+      (λ kind place h. goes_fault h) (λ touch new c l h. goes_touch h)
+      (λ grant. went_local s f frame callers step frames own rest all here sums fits typed shaped safe (λ result r one. not_left s f frame callers step here inside result r))
+
+  touches_fault : {touch : Touch} {new : State} {kind : FaultKind} {place : Place} → Touches touch new ≡ Faults kind place → ⊥
+  touches_fault h = cc
+
+  touches_same : {touch touch' : Touch} {new new' : State} → Touches touch new ≡ Touches touch' new' → touch ≡ touch'
+  touches_same h = cc
+
+  -- a step that touches and goes to other frames, over the same memory
+  pub reading_secure : (s : State) (f : FunctionTree) (frame : Frame) (callers : Thread) (step : StepTree) (touch : Touch) (frames : Thread) (own rest all : Part) → Here p s t f frame callers step → IsDirect step → IsInside step
+      → act_of p (turn_of s t frame callers) step ≡ Touches touch (with_frames (turn_of s t frame callers) frames) → IsSum own rest all → Fits all s.memory → IsTypedPart e p all → IsShaped p s.memory
+      → ((c : Cell) (l : Location) → TouchesCell s.memory touch c → location_in (block_at s.memory c.block) c ≡ Some l → OwnsFor touch own l) → S frames own → Secure e p t duty S s own rest
+  reading_secure s f frame callers step touch frames own rest all here direct inside is sums fits typed shaped owned safe =
+      secure s f frame callers step own rest (Touches touch (with_frames (turn_of s t frame callers) frames)) here direct is
+      (λ kind place h. touches_fault h) (λ touch' new c l h covers at. subst (λ z. OwnsFor z own l) (touches_same h) (owned c l (subst (λ z. TouchesCell s.memory z c) (sym (touches_same h)) covers) at))
+      (λ grant. went_local s f frame callers step frames own rest all here sums fits typed shaped safe (λ result r one. not_left s f frame callers step here inside result r))
+
+  -- a thread with other frames, another part and another memory, in which the mutexes and handles are as before
+  pub went_over : (s : State) (f : FunctionTree) (frame : Frame) (callers : Thread) (step : StepTree) (frames : Thread) (m : Memory) (own rest all : Part) → Here p s t f frame callers step → IsInside step
+      → IsSum own rest all → Fits all m → IsTypedPart e p all → IsShaped p m → ((b : ℕ) → IsShared (block_at m b) → block_at m b ≡ block_at s.memory b)
+      → S frames own → Went e p t duty S s (with_frames (over_memory (turn_of s t frame callers) m) frames) rest
+  went_over s f frame callers step frames m own rest all here inside sums fits typed shaped unshared safe = record {
+    frames = frames;
+    own = own;
+    leaked = nothing;
+    others = rest;
+    all = all;
+    given_up = sums_turn nothing rest rest (nothing_is_neutral rest);
+    sums = sums;
+    fits = fits;
+    typed = typed;
+    shaped = shaped;
+    now = set_own s.threads t frames (frame ∷ callers) here.frames;
+    alone = λ u other. set_other s.threads t u frames other;
+    number = set_length s.threads t frames;
+    unshared = unshared;
+    going = λ h. safe;
+    leaves = λ result r one. not_left s f frame callers step here inside result r;
+  }
+
+  -- a step that touches and goes to another memory
+  pub writing_secure : (s : State) (f : FunctionTree) (frame : Frame) (callers : Thread) (step : StepTree) (touch : Touch) (frames : Thread) (m : Memory) (own rest own' all' : Part) → Here p s t f frame callers step → IsDirect step → IsInside step
+      → act_of p (turn_of s t frame callers) step ≡ Touches touch (with_frames (over_memory (turn_of s t frame callers) m) frames) → IsSum own' rest all' → Fits all' m → IsTypedPart e p all' → IsShaped p m
+      → ((b : ℕ) → IsShared (block_at m b) → block_at m b ≡ block_at s.memory b)
+      → ((c : Cell) (l : Location) → TouchesCell s.memory touch c → location_in (block_at s.memory c.block) c ≡ Some l → OwnsFor touch own l) → S frames own' → Secure e p t duty S s own rest
+  writing_secure s f frame callers step touch frames m own rest own' all' here direct inside is sums fits typed shaped unshared owned safe =
+      secure s f frame callers step own rest (Touches touch (with_frames (over_memory (turn_of s t frame callers) m) frames)) here direct is
+      (λ kind place h. touches_fault h) (λ touch' new c l h covers at. subst (λ z. OwnsFor z own l) (touches_same h) (owned c l (subst (λ z. TouchesCell s.memory z c) (sym (touches_same h)) covers) at))
+      (λ grant. went_over s f frame callers step frames m own' rest all' here inside sums fits typed shaped unshared safe)
+
+-- ---- typed parts
+pub typed_sum : (e : Environment) (p : ProgramTree) (q f all : Part) → IsSum q f all → IsTypedPart e p q → IsTypedPart e p f → IsTypedPart e p all
+typed_sum e p q f all s h k l c x = elim (in_either q f all s l c x) [ inl y ↦ h l c y | inr y ↦ k l c y ]
+
+pub typed_single : (e : Environment) (p : ProgramTree) (l : Location) (c : Content) (x : Dyadic) → IsTypedContent e p l c → IsTypedPart e p (single l c x)
+typed_single e p l c x h k d y = let at = single_only l c x k d y in subst (λ z. IsTypedContent e p z d) (sym at.0) (subst (λ z. IsTypedContent e p l z) (sym at.1) h)
+
+pub typed_of_left : (e : Environment) (p : ProgramTree) (q f all : Part) → IsSum q f all → IsTypedPart e p all → IsTypedPart e p q
+typed_of_left e p q f all s h l c x = h l c (in_left q f all s l c x)
+
+pub typed_of_right : (e : Environment) (p : ProgramTree) (q f all : Part) → IsSum q f all → IsTypedPart e p all → IsTypedPart e p f
+typed_of_right e p q f all s h l c x = h l c (in_right q f all s l c x)
