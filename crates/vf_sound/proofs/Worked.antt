@@ -144,5 +144,5 @@ broken_promise_is_seen e linked kept =
     let function = some_same kept.is_main in
     let declared : e.functions (codes "one.c#main") ≡ Some promised = (linked.all (environment_of seven_for_eight) (0, omega arith, refl)).functions (codes "one.c#main") promised refl in
     let contract : promised ≡ kept.contract = some_same (sym declared ∙ ap (λ (f : FunctionTree). e.functions f.identity) function ∙ kept.of_main) in
-    let satisfied = kept.ensured 0 _ (Some (values.Number (pos 7))) refl refl returns_seven refl in
-    seven_is_not_eight e kept.under _ (subst (λ (c : ContractTree). Satisfies e whole c.ensures_this (with_result kept.under (Some (values.Number (pos 7)))) ((kept.outs 1).threads 0)) (sym contract) satisfied)
+    let ensured = kept.ensured 0 _ (Some (values.Number (pos 7))) refl refl returns_seven refl in
+    seven_is_not_eight e ensured.later _ (subst (λ (c : ContractTree). Satisfies e whole c.ensures_this (with_result ensured.later (Some (values.Number (pos 7)))) ((kept.outs 1).threads 0)) (sym contract) ensured.satisfies)
