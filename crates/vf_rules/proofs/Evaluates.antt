@@ -99,11 +99,13 @@ differs e v t z k is h = not_true (int_eq z k) (subst (λ w. compared NotEqual w
 divides_well : (e : Environment) (v : Valuation) (path : List Fact) (ty : IntType) (a b : Term) (x y : ℤ) → IsDivisor e path ty a b → Meets e v path → value_in e v a ≡ values.Number x → value_in e v b ≡ values.Number y
     → (int_eq y (pos 0) ≡ false) × (bad_divisor ty x y ≡ false)
 divides_well e v path ty a b x y h m ia ib =
-    let nonzero = differs e v b y (pos 0) ib ((h.0).by v m) in
-    (nonzero, ⊎_elim
-    (λ k. ap₂ (λ p q. p || (q && int_eq x (least ty))) nonzero (differs e v b y (negsuc 0) ib (k.by v m)))
-    (λ k. ap₂ (λ p q. p || (int_eq y (negsuc 0) && q)) nonzero (differs e v a x (least ty) ia (k.by v m)) ∙ and_none (int_eq y (negsuc 0)))
-    h.1)
+    let nonzero = differs e v b y (pos 0) ib ((h.0).by v m) in (
+      nonzero,
+      ⊎_elim
+          (λ k. ap₂ (λ p q. p || (q && int_eq x (least ty))) nonzero (differs e v b y (negsuc 0) ib (k.by v m)))
+          (λ k. ap₂ (λ p q. p || (int_eq y (negsuc 0) && q)) nonzero (differs e v a x (least ty) ia (k.by v m)) ∙ and_none (int_eq y (negsuc 0)))
+          h.1,
+    )
   where
     and_none : (b : Bool) → (b && false) ≡ false
     and_none true = refl

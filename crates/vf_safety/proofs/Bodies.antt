@@ -214,14 +214,14 @@ module _ (e : Environment) (p : ProgramTree) (t : ℕ) (duty : Duty) (f : Functi
       let same_test = compares_terms e v st.path c u w ca cb (r.stands).path in
       elim (cases_Bool (compared c (value_in e v u) (value_in e v w))) [
         | inl yes1 ↦
-          local_secure e p t duty (Safe e p t duty m) s f frame callers (If c a b y_step n_step) (at_step frame y_step ∷ callers) own rest all at tt tt
-          (if_act p s t frame callers c a b y_step n_step _ _ true left right (same_test ∙ yes1)) sums fits typed shaped
-          (yes_go (later n y_step st (assuming st (Holds (Compare c u w))) m frame callers own own r v frame.locals r.part (assuming_stands e v st frame.locals r.names r.part (Holds (Compare c u w)) yes1 r.stands) r.typed r.sums))
+            local_secure e p t duty (Safe e p t duty m) s f frame callers (If c a b y_step n_step) (at_step frame y_step ∷ callers) own rest all at tt tt
+            (if_act p s t frame callers c a b y_step n_step _ _ true left right (same_test ∙ yes1)) sums fits typed shaped
+            (yes_go (later n y_step st (assuming st (Holds (Compare c u w))) m frame callers own own r v frame.locals r.part (assuming_stands e v st frame.locals r.names r.part (Holds (Compare c u w)) yes1 r.stands) r.typed r.sums))
         | inr no1 ↦
-          local_secure e p t duty (Safe e p t duty m) s f frame callers (If c a b y_step n_step) (at_step frame n_step ∷ callers) own rest all at tt tt
-          (if_act p s t frame callers c a b y_step n_step _ _ false left right (same_test ∙ no1)) sums fits typed shaped
-          (no_go (later n n_step st (assuming st (Holds (Not (Compare c u w)))) m frame callers own own r v frame.locals r.part
-          (assuming_stands e v st frame.locals r.names r.part (Holds (Not (Compare c u w))) (not_true (compared c (value_in e v u) (value_in e v w)) no1) r.stands) r.typed r.sums))
+            local_secure e p t duty (Safe e p t duty m) s f frame callers (If c a b y_step n_step) (at_step frame n_step ∷ callers) own rest all at tt tt
+            (if_act p s t frame callers c a b y_step n_step _ _ false left right (same_test ∙ no1)) sums fits typed shaped
+            (no_go (later n n_step st (assuming st (Holds (Not (Compare c u w)))) m frame callers own own r v frame.locals r.part
+            (assuming_stands e v st frame.locals r.names r.part (Holds (Not (Compare c u w))) (not_true (compared c (value_in e v u) (value_in e v w)) no1) r.stands) r.typed r.sums))
       ]
     where
       not_true : (b : Bool) → b ≡ false → not b ≡ true
@@ -330,7 +330,7 @@ module _ (e : Environment) (p : ProgramTree) (t : ℕ) (duty : Duty) (f : Functi
   allocate_safe : (n : ℕ) (st : SymbolicState) (m : ℕ) (frame : Frame) (callers : Thread) (own : Part) (x : ℕ) (g : Identity) (next y : ℕ) → (r : Ready n st (suc m) frame callers own) → slice_get f.steps n ≡ Some (Allocate x g next) → IsFresh y st
       → (Ready next (accept.with_local st x Null) m (at_step (with_local frame x values.Null) next) callers own → Safe e p t duty m (at_step (with_local frame x values.Null) next ∷ callers) own)
       → ((b : ℕ) (own' : Part) → Ready next (accept.with_local (assuming_all (with_chunks st (st.chunks ++ new_chunks g (symbol y) 0 (field_count p g))) (OfSort (symbol y) Pointers ∷ Holds (Compare NotEqual (symbol y) Null) ∷ [])) x (symbol y)) m (at_step (with_local frame x (start_of b)) next) callers own'
-          → Safe e p t duty m (at_step (with_local frame x (start_of b)) next ∷ callers) own')
+      → Safe e p t duty m (at_step (with_local frame x (start_of b)) next ∷ callers) own')
       → Safe e p t duty (suc m) (frame ∷ callers) own
   allocate_safe n st m frame callers own x g next y r is fresh denied_go granted_go s rest all going frames sums fits typed shaped =
       let v = r.symbols in
@@ -353,7 +353,7 @@ module _ (e : Environment) (p : ProgramTree) (t : ℕ) (duty : Duty) (f : Functi
           → (s : State) (rest all : Part) → s.end ≡ None → slice_get s.threads t ≡ Some (frame ∷ callers) → IsSum own rest all → Fits all s.memory → IsTypedPart e p all → IsShaped p s.memory
           → Here p s t f frame callers (Allocate x g next) → (b : ℕ) → block_at s.memory b ≡ None
           → ((own' : Part) → Ready next (accept.with_local (assuming_all (with_chunks st (st.chunks ++ new_chunks g (symbol y) 0 (field_count p g))) (OfSort (symbol y) Pointers ∷ Holds (Compare NotEqual (symbol y) Null) ∷ [])) x (symbol y)) m (at_step (with_local frame x (start_of b)) next) callers own'
-              → Safe e p t duty m (at_step (with_local frame x (start_of b)) next ∷ callers) own')
+          → Safe e p t duty m (at_step (with_local frame x (start_of b)) next ∷ callers) own')
           → Went e p t duty (Safe e p t duty m) s (with_frames (over_memory (turn_of s t frame callers) (finite.insert s.memory b (new_struct p g))) (at_step (with_local frame x (start_of b)) next ∷ callers)) rest
       granted n st m frame callers own x g next y r is fresh s rest all going frames sums fits typed shaped at b free go =
           let v1 = bound r.symbols (Numbered y) (start_of b) in
@@ -558,7 +558,7 @@ module _ (e : Environment) (p : ProgramTree) (t : ℕ) (duty : Duty) (f : Functi
   result_means u after names z w is value x y h =
       elim (cases_Bool (same_name x Result)) [
         | inl same_one ↦
-          ap (value_in e u) (some_same (sym h ∙ ap after ((tells_names x Result).0 same_one) ∙ is)) ∙ value ∙ ap (λ b. cond b w (override u after names x)) (sym same_one)
+            ap (value_in e u) (some_same (sym h ∙ ap after ((tells_names x Result).0 same_one) ∙ is)) ∙ value ∙ ap (λ b. cond b w (override u after names x)) (sym same_one)
         | inr other ↦ override_means u after names x y h ∙ ap (λ b. cond b w (override u after names x)) (sym other)
       ]
 
@@ -571,15 +571,15 @@ module _ (e : Environment) (p : ProgramTree) (t : ℕ) (duty : Duty) (f : Functi
       let at = here n st (suc m) frame callers own s (Return (Some a)) r is going frames in
       let value = evaluates e v st.path st.locals frame.locals a u ev (r.stands).path (r.stands).locals_mean in
       let c = consumed e p k.sorts all_of_it whole frame.locals r.names k.ensures_this (stored st.names Result u) st (λ s1 st1. (st1.chunks ≡ []) × KeepsFixed k st.names s1) consume v r.part r.stands
-          (result_store_sorted e v k.sorts st.names u (names_sorted e v k.sorts st.names r.names (r.stands).names_mean r.of_sorts)) refl in
+      (result_store_sorted e v k.sorts st.names u (names_sorted e v k.sorts st.names r.names (r.stands).names_mean r.of_sorts)) refl in
       let left_none : c.left ≡ nothing = subst (λ cs. ChunksMean e c.under cs c.left) (c.holds).0 (c.stands).chunks_mean in
       let off_is : c.off ≡ r.part = nothing_left c.off c.left r.part left_none c.sums in
       let result_is : c.store Result ≡ Some u = c.grows Result u (stored_own st.names Result u) in
       let ensured = consumed_ensures v c.under r.names st (stored st.names Result u) c.store (Some w) c.depth c.off (r.stands).names_mean r.of_sorts c.sorted (c.holds).1
-          (λ x fix. stored_other st.names Result x u (not_result x fix)) c.stays
-          (result_means c.under c.store r.names u w result_is (c.stays Result u (stored_own st.names Result u))) c.satisfies in
+      (λ x fix. stored_other st.names Result x u (not_result x fix)) c.stays
+      (result_means c.under c.store r.names u w result_is (c.stays Result u (stored_own st.names Result u))) c.satisfies in
       let next = r.continues m (omega arith) (Some w) c.off own (may_is f.signature.result w value_type (type_back e v f.signature.result u (all_entailed e st.path _ facts v (r.stands).path))) ensured r.typed
-          (subst (λ z. IsSum z r.kept own) (sym off_is) r.sums) in
+      (subst (λ z. IsSum z r.kept own) (sym off_is) r.sums) in
       secure e p t duty (Safe e p t duty m) s f frame callers (Return (Some a)) own rest (Goes (returns (turn_of s t frame callers) (Some w))) at tt (return_act s frame callers a w value)
       (λ kind place h. goes_fault h) (λ touch new c0 l h. goes_touch h)
       (λ grant. ended_frames s frame callers (Some w) rest own all going frames sums fits typed shaped m
@@ -594,7 +594,7 @@ module _ (e : Environment) (p : ProgramTree) (t : ℕ) (duty : Duty) (f : Functi
       let v = r.symbols in
       let at = here n st (suc m) frame callers own s (Return None) r is going frames in
       let c = consumed e p k.sorts all_of_it whole frame.locals r.names k.ensures_this st.names st (λ s1 st1. (st1.chunks ≡ []) × KeepsFixed k st.names s1) consume v r.part r.stands
-          (names_sorted e v k.sorts st.names r.names (r.stands).names_mean r.of_sorts) refl in
+      (names_sorted e v k.sorts st.names r.names (r.stands).names_mean r.of_sorts) refl in
       let left_none : c.left ≡ nothing = subst (λ cs. ChunksMean e c.under cs c.left) (c.holds).0 (c.stands).chunks_mean in
       let off_is : c.off ≡ r.part = nothing_left c.off c.left r.part left_none c.sums in
       let ensured = consumed_ensures v c.under r.names st st.names c.store None c.depth c.off (r.stands).names_mean r.of_sorts c.sorted (c.holds).1 (λ x fix. refl) c.stays (override_means c.under c.store r.names) c.satisfies in
@@ -712,20 +712,20 @@ module _ (e : Environment) (p : ProgramTree) (t : ℕ) (duty : Duty) (f : Functi
       let means = completed_means e c.under contract.sorts has.inhabited c.store in
       let inner = apart c.off c.left r.part r.kept own c.sums r.sums in
       let thread_is : names CurrentThread ≡ values.Number (pos t) =
-          sym (means CurrentThread (Variable CurrentThread) (c.grows CurrentThread (Variable CurrentThread) (stored_own (store_of ts) CurrentThread (Variable CurrentThread))))
-          ∙ c.stays CurrentThread (Variable CurrentThread) (stored_own (store_of ts) CurrentThread (Variable CurrentThread))
-          ∙ (r.stands).names_mean CurrentThread (Variable CurrentThread) of_thread ∙ r.thread in
+      sym (means CurrentThread (Variable CurrentThread) (c.grows CurrentThread (Variable CurrentThread) (stored_own (store_of ts) CurrentThread (Variable CurrentThread))))
+      ∙ c.stays CurrentThread (Variable CurrentThread) (stored_own (store_of ts) CurrentThread (Variable CurrentThread))
+      ∙ (r.stands).names_mean CurrentThread (Variable CurrentThread) of_thread ∙ r.thread in
       let begins : (j : ℕ) (w : Value) → slice_get ws j ≡ Some w → names (Numbered j) ≡ w = λ j w h.
-          let z = argument_at v ts j w h in
-          let there = stored_other (store_of ts) CurrentThread (Numbered j) (Variable CurrentThread) (λ x. number_thread x) ∙ z.1 in
-          sym (means (Numbered j) z.0 (c.grows (Numbered j) z.0 there)) ∙ c.stays (Numbered j) z.0 there ∙ z.2 in
+      let z = argument_at v ts j w h in
+      let there = stored_other (store_of ts) CurrentThread (Numbered j) (Variable CurrentThread) (λ x. number_thread x) ∙ z.1 in
+      sym (means (Numbered j) z.0 (c.grows (Numbered j) z.0 there)) ∙ c.stays (Numbered j) z.0 there ∙ z.2 in
       let continues : Continues e p t duty m (at_step frame next ∷ callers) target callee.signature.result contract names inner.0 = λ j l result q2 own2 typed_result ensured typed2 sums2. (
         (λ none. absurd (no_callers none)),
         after_call n st m frame callers own target next callee contract outs r to go c.under c.left c.store c.state y names fresh fixed means produce c.stands inner.0 inner.1 j (less j m l) result q2 own2 typed_result ensured typed2 sums2,
       ) in
       let callee_safe = r.others m (omega arith) number callee contract callee_is has ws names (at_step frame next ∷ callers) target c.off inner.0 own (mapped_long v ts ∙ count)
-          (types_back e v callee.signature.parameters ts (all_entailed e st.path _ types v (r.stands).path)) begins thread_is (completed_sorted e c.under contract.sorts has.inhabited c.store c.sorted)
-          (c.depth, c.satisfies names means) r.typed inner.2 continues in
+      (types_back e v callee.signature.parameters ts (all_entailed e st.path _ types v (r.stands).path)) begins thread_is (completed_sorted e c.under contract.sorts has.inhabited c.store c.sorted)
+      (c.depth, c.satisfies names means) r.typed inner.2 continues in
       local_secure e p t duty (Safe e p t duty m) s f frame callers (Call target g operands place next) (entered number callee ws target ∷ at_step frame next ∷ callers) own rest all at outside tt
       (call_act p s t frame callers target g operands place next number callee ws value outside named callee_is) sums fits typed shaped callee_safe
     where
@@ -757,8 +757,8 @@ module _ (e : Environment) (p : ProgramTree) (t : ℕ) (duty : Duty) (f : Functi
           let stands2 = assuming_all_stands e v2 st1 frame.locals r.names left _ (result_facts v2 callee.signature.result (symbol y) result typed_result value_is) (stands_fresh e u y yv st1 frame.locals r.names left fresh.state stands) in
           let inside = together q2 left r.kept beside0 own2 inner sums2 in
           let o = produced e p contract.sorts all_of_it whole (ensured.satisfies).0 frame.locals r.names contract.ensures_this (stored s1 Result (symbol y)) (assuming_all st1 (facts_of_result callee.signature.result (symbol y)))
-              (λ s2 st2. IsAmong outs s2 (receiving target (symbol y) st2)) produce v2 (with_result w result) q2 left inside.0 stands2 means2 (with_result_sorted w contract.sorts result ensured.sorts) refl positive_whole (ensured.satisfies).1
-              (typed_of_left e p q2 beside0 own2 sums2 typed2) inside.1 in
+          (λ s2 st2. IsAmong outs s2 (receiving target (symbol y) st2)) produce v2 (with_result w result) q2 left inside.0 stands2 means2 (with_result_sorted w contract.sorts result ensured.sorts) refl positive_whole (ensured.satisfies).1
+          (typed_of_left e p q2 beside0 own2 sums2 typed2) inside.1 in
           let symbol_is : (x : Value) → result ≡ Some x → value_in e o.under (symbol y) ≡ x = λ x h. o.means Result (symbol y) (o.grows Result (symbol y) (stored_own s1 Result (symbol y))) ∙ result_bound w result x h in
           go o.store (receiving target (symbol y) o.state) o.holds j (state.with_result (at_step frame next) target result) own2
           (resumed n next st o.state m j frame callers own own2 r target result (symbol y) callee.signature.result o.under inside.0 l typed_result to symbol_is o.stands typed2 inside.2)

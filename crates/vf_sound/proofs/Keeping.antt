@@ -194,9 +194,9 @@ module _ (core : Core) (f : Function) (found : slice_get core.plain.functions co
     ensured = λ j event result is first returns last.
         let kept = promise_kept core.plain f core.contract.postcondition found in_order _ result (good_throughout events j) returns in
         record {
-            later = λ x. no_value;
-            fixed = λ x has. refl;
-            sorts = λ k s known. absurd (none_some known);
-            satisfies = subst (λ r. Satisfies e whole (assertion_of core.contract.postcondition) (with_result (λ x. no_value) r) nothing) (sym kept.1) (promised_satisfies e core.contract.postcondition (λ x. no_value) kept.0 kept.2);
-          };
+          later = λ x. no_value;
+          fixed = λ x has. refl;
+          sorts = λ k s known. absurd (none_some known);
+          satisfies = subst (λ r. Satisfies e whole (assertion_of core.contract.postcondition) (with_result (λ x. no_value) r) nothing) (sym kept.1) (promised_satisfies e core.contract.postcondition (λ x. no_value) kept.0 kept.2);
+        };
   }
