@@ -49,6 +49,13 @@ impl Names {
         self.names.len()
     }
 
+    /// The names as a slice.
+    pub fn as_slice(&self) -> &[Text]
+        ensures { result.now ≡ self.now }
+    {
+        self.names.as_slice()
+    }
+
     /// The number of a name.
     pub fn number(&self, name: &[u8]) -> Option<usize>
         ensures number { result ≡ number_of self.now name.now }

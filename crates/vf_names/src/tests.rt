@@ -19,5 +19,6 @@ fn numbers(rt: HostRuntime) -> Result<(), Fail> {
     }
     assert!(rt; names.name(3) == Some(b"ab".as_slice()));
     assert!(rt; names.name(4).is_none());
+    assert_eq!(rt; names.as_slice().len(), 4);
     Ok(())
 }

@@ -11,10 +11,12 @@ use Rattle.vf_snapshot.specs.declared.held.Held.TheVariants as known
 use Rattle.vf_snapshot.specs.declared.held.SnapFault.{SnapFault}
 use Rattle.vf_snapshot.specs.declared.held.SnapFault.TheVariants as faults
 use Rattle.std.specs.String.{string_bytes}
+use Rattle.vf_names.proofs.Numbering.{number_of-push}
+use Rattle.std.proofs.lemmas.List.{length-map}
 use Rattle.vf_names.specs.Names.{number_of, put, put_found}
 use Rattle.vf_snapshot.specs.declared.snapshot.Entry.{Entry}
 use Rattle.vf_snapshot.specs.Entries.{entry_of, Match}
-use Rattle.vf_snapshot.specs.Holdings.{Holdings, paths, number_in, known_of, IsKnown, answer, Learns, Stands, Grows}
+use Rattle.vf_snapshot.specs.Holdings.{Holdings, paths, number_in, known_of, IsKnown, answer, Learns, Stands, Grows, IsHeldAt}
 
 -- a front of more than 1,048,576 bytes is of a file that is too long
 pub too_long : (front all : List ℕ) → 1048576 < length front → front ≡ take 1048577 all → known.TooLong ≡ known_of (Some all)
@@ -95,7 +97,7 @@ answers_missing known.TooLong n h = absurd cc
 answers_missing known.Missing n h = refl
 
 -- what is held under the number of an answer
-pub Stands-answer : (held : Holdings) (path : List ℕ) (n : ℕ) (h : Held) (result : Result ℕ SnapFault) → slice_get held n ≡ Some (path, h) → result ≡ answer n h → Stands held path result
+pub Stands-answer : (held : Holdings) (path : List ℕ) (n : ℕ) (h : Held) (result : Result ℕ SnapFault) → IsHeldAt held path n h → result ≡ answer n h → Stands held path result
 Stands-answer held path n (known.Bytes bytes) result at e = subst (Stands held path) (sym e) (bytes, at)
 Stands-answer held path n known.TooLong result at e = subst (Stands held path) (sym e) at
 Stands-answer held path n known.Missing result at e = subst (Stands held path) (sym e) (n, at)
@@ -110,14 +112,25 @@ asked_at held path n h result at asked =
 pub same_grows : (old new : Holdings) → new ≡ old → Grows old new
 same_grows old new e = ([], e ∙ sym (append-nil old))
 
+paths-push : (old : Holdings) (path : List ℕ) (held : Held) → paths (old ++ (path, held) ∷ []) ≡ paths old ++ path ∷ []
+paths-push old path held = map-append (λ (e : List ℕ × Held). e.0) old ((path, held) ∷ [])
+
+-- a new path is held under the next number
+pub held_new : (old new : Holdings) (path : List ℕ) (held : Held) (n : ℕ) → number_in old path ≡ None → n ≡ length old → new ≡ old ++ (path, held) ∷ [] → IsHeldAt new path n held
+held_new old new path held n none last is =
+    let size : length (paths old) ≡ length old = length-map old (λ (e : List ℕ × Held). e.0) in (
+      ap (λ h. number_in h path) is ∙ ap (λ ps. number_of ps path) (paths-push old path held) ∙ number_of-push (paths old) path none ∙ ap Some (size ∙ sym last),
+      ap (λ h. slice_get h n) is ∙ ap (λ k. slice_get (old ++ (path, held) ∷ []) k) last ∙ last_there old (path, held),
+    )
+
 -- where one more entry was put it stands
-pub put_there : {E : Type 0} (r : Result ℕ E) (old new : Holdings) (path : List ℕ) (held : Held) → IfOk r (λ n. n ≡ length old) → OnOk r (new ≡ old ++ (path, held) ∷ []) → IfOk r (λ n. (h : Held) × (slice_get new n ≡ Some (path, h)))
-put_there (Ok n) old new path held last is = (held, ap (λ hs. slice_get hs n) is ∙ ap (λ k. slice_get (old ++ (path, held) ∷ []) k) last ∙ last_there old (path, held))
-put_there (Err e) old new path held last is = tt
+pub put_there : {E : Type 0} (r : Result ℕ E) (old new : Holdings) (path : List ℕ) (held : Held) → number_in old path ≡ None → IfOk r (λ n. n ≡ length old) → OnOk r (new ≡ old ++ (path, held) ∷ []) → IfOk r (λ n. (h : Held) × IsHeldAt new path n h)
+put_there (Ok n) old new path held none last is = (held, held_new old new path held n none last is)
+put_there (Err e) old new path held none last is = tt
 
 -- the same for a new path that was read
-pub learnt_there : (told : Contents) (path : List ℕ) (old new : Holdings) (held : Held) (n : ℕ) (result : Result ℕ SnapFault) → option_map (λ (e : List ℕ × Held). answer n e.1) (slice_get new n) ≡ Some result → n ≡ length old → new ≡ old ++ (path, held) ∷ [] → IsKnown told path held
+pub learnt_there : (path : List ℕ) (old new : Holdings) (held : Held) (n : ℕ) (result : Result ℕ SnapFault) → number_in old path ≡ None → option_map (λ (e : List ℕ × Held). answer n e.1) (slice_get new n) ≡ Some result → n ≡ length old → new ≡ old ++ (path, held) ∷ []
     → Stands new path result
-learnt_there told path old new held n result asked last is knows =
-    let there : slice_get new n ≡ Some (path, held) = ap (λ h. slice_get h n) is ∙ ap (λ k. slice_get (old ++ (path, held) ∷ []) k) last ∙ last_there old (path, held) in
-    Stands-answer new path n held result there (asked_at new path n held result there asked)
+learnt_there path old new held n result none asked last is =
+    let there : IsHeldAt new path n held = held_new old new path held n none last is in
+    Stands-answer new path n held result there (asked_at new path n held result there.1 asked)

@@ -53,11 +53,15 @@ IsOutside faults.ReadFault = Unit {0}
 IsOutside faults.Memory = Unit {0}
 IsOutside _ = ⊥
 
+-- this is held of a path, under its number
+abbrev pub IsHeldAt : Holdings → List ℕ → ℕ → Held → Type 0
+IsHeldAt held path number h = (number_in held path ≡ Some number) × (slice_get held number ≡ Some (path, h))
+
 -- after an answer that tells of a path, this is held of it, under the number that the answer names
 abbrev pub Stands : Holdings → List ℕ → Result ℕ SnapFault → Type 0
-Stands held path (Ok number) = (bytes : List ℕ) × (slice_get held number ≡ Some (path, known.Bytes bytes))
-Stands held path (Err (faults.TooLong number)) = slice_get held number ≡ Some (path, known.TooLong)
-Stands held path (Err faults.Missing) = (number : ℕ) × (slice_get held number ≡ Some (path, known.Missing))
+Stands held path (Ok number) = (bytes : List ℕ) × IsHeldAt held path number (known.Bytes bytes)
+Stands held path (Err (faults.TooLong number)) = IsHeldAt held path number known.TooLong
+Stands held path (Err faults.Missing) = (number : ℕ) × IsHeldAt held path number known.Missing
 Stands held path (Err faults.ReadFault) = Unit {0}
 Stands held path (Err faults.Memory) = Unit {0}
 

@@ -6,7 +6,7 @@ mod path;
 mod snapshot;
 
 pub use held::{Held, SnapFault};
-pub use path::normal_path;
+pub use path::{normal_path, normal_path_of_bytes};
 pub use snapshot::Snapshot;
 
 #[cfg(test)]

@@ -13,7 +13,14 @@ use vf_base::{Memory, Text};
 pub fn normal_path(alloc: Global, folder: &str, path: &str) -> Result<Text, Memory>
     ensures { IfOk result (λ text. text ≡ normal folder.now path.now) }
 {
-    let whole = joined_path(alloc, folder.as_bytes(), path.as_bytes())?;
+    normal_path_of_bytes(alloc, folder.as_bytes(), path.as_bytes())
+}
+
+/// The same for a folder and a path that are given as bytes.
+pub fn normal_path_of_bytes(alloc: Global, folder: &[u8], path: &[u8]) -> Result<Text, Memory>
+    ensures { IfOk result (λ text. text ≡ normal folder.now path.now) }
+{
+    let whole = joined_path(alloc, folder, path)?;
     let kept = needed_parts(alloc, whole.as_bytes())?;
     path_of_parts(alloc, &kept)
 }

@@ -4,7 +4,7 @@ ghost use Rattle.std.specs.Prelude.{◌≡◌, ℕ, [], ◌∷◌, ◌++◌, ◌
 ghost use Rattle.vf_base.specs.Outside.{Rose, IsFront};
 ghost use Rattle.vf_snapshot.specs.declared.held.Held.{Held};
 ghost use Rattle.vf_snapshot.specs.declared.held.Held.TheVariants as known;
-ghost use Rattle.vf_snapshot.specs.Holdings.{number_in, known_of, IsKnown, Learns, answer, bytes_of, IsOutside, Stands, Grows};
+ghost use Rattle.vf_snapshot.specs.Holdings.{number_in, known_of, IsKnown, Learns, answer, bytes_of, IsOutside, Stands, Grows, IsHeldAt};
 
 use crate::held::{Held, SnapFault};
 use std::alloc::Global;
@@ -100,7 +100,7 @@ impl Snapshot {
             → (result ≡ Ok number) × (self.new ≡ self.old) }
         ensures kept { number_in self.old path.now ≡ None → IfOk result (λ number.
             (number ≡ length self.old) × (self.new ≡ self.old ++ (path.now, known.Bytes bytes.now) ∷ [])) }
-        ensures there { IfOk result (λ number. (held : Held) × (slice_get self.new number ≡ Some (path.now, held))) }
+        ensures there { IfOk result (λ number. (held : Held) × IsHeldAt self.new path.now number held) }
         ensures grows { Grows self.old self.new }
         ensures unchanged { OnErr result (self.new ≡ self.old) }
     {

@@ -22,8 +22,8 @@ returns-in_ok-number-in-None-clause-missing g c = λ is_missing none.
 pub returns-in-Some-clause-there : goal.returns-in-Some-clause-there
 returns-in-Some-clause-there g c =
     let at = c.in-Some.ensures.there in
-    Stands-answer c.args.self.now c.args.path.now c.in-Some.number at.0 c.answer.result at.1 (asked_at c.args.self.now c.args.path.now c.in-Some.number at.0 c.answer.result at.1 c.answer.ensures)
+    Stands-answer c.args.self.now c.args.path.now c.in-Some.number at.0 c.answer.result (sym c.in-Some.ensures.number, at.1) (asked_at c.args.self.now c.args.path.now c.in-Some.number at.0 c.answer.result at.1 c.answer.ensures)
 
 pub returns-in_ok-number-in-None-clause-there : goal.returns-in_ok-number-in-None-clause-there
 returns-in_ok-number-in-None-clause-there g c =
-    learnt_there (g.F.Files.contents c.args.files.now) c.args.path.now c.args.self.now c.hold.new.self c.in_ok-held-in-None.held c.in_ok-number-in-None.number c.answer-in-None.result c.answer-in-None.ensures c.in_ok-number-in-None.ensures.number c.in_ok-number-in-None.ensures.held c.in_ok-held-in-None.ensures.known
+    learnt_there c.args.path.now c.args.self.now c.hold.new.self c.in_ok-held-in-None.held c.in_ok-number-in-None.number c.answer-in-None.result (sym c.in-None.ensures.number) c.answer-in-None.ensures c.in_ok-number-in-None.ensures.number c.in_ok-number-in-None.ensures.held
