@@ -1,0 +1,110 @@
+//! Names with numbers.
+
+ghost use Rattle.std.specs.Prelude.{◌≡◌, [], ◌∷◌, ◌++◌, length, Some, None, IfSome, IfOk, OnOk, OnErr, slice_get};
+ghost use Rattle.std.specs.Option.{option_map};
+ghost use Rattle.vf_names.specs.Names.{number_of, put};
+
+use std::alloc::Global;
+use std::collections::BTreeMap;
+use std::marker::Model;
+use vf_base::{Memory, Text};
+
+/// Names, each with the number of its coming, from 0. Contracts see the list of the names in order.
+///
+/// A name is found in logarithmic time.
+#[derive(Drop)]
+pub struct Names {
+    alloc: Global,
+    names: Vec<Text>,
+    numbers: BTreeMap<Vec<u8>, usize>,
+}
+
+impl Model for Names {
+    ghost use Rattle.std.specs.Prelude.{List, ℕ};
+    ghost use Rattle.vf_names.specs.Kept.{Numbers};
+
+    ghost Value = { List (List ℕ) };
+
+    ghost view = { λ n. n.names.items };
+
+    ghost invariant = { λ n. Numbers n.names.items n.numbers };
+}
+
+impl Names {
+    /// No names, which takes no memory.
+    pub fn new(alloc: Global) -> Names
+        ensures { result ≡ [] }
+    {
+        Names {
+            alloc,
+            names: Vec::new(alloc),
+            numbers: BTreeMap::new(alloc),
+        }
+    }
+
+    /// How many names there are.
+    pub fn len(&self) -> usize
+        ensures { result ≡ length self.now }
+    {
+        self.names.len()
+    }
+
+    /// The names as a slice.
+    pub fn as_slice(&self) -> &[Text]
+        ensures { result.now ≡ self.now }
+    {
+        self.names.as_slice()
+    }
+
+    /// The number of a name.
+    pub fn number(&self, name: &[u8]) -> Option<usize>
+        ensures number { result ≡ number_of self.now name.now }
+        ensures there { IfSome result (λ n. slice_get self.now n ≡ Some name.now) }
+    {
+        self.numbers.get(name).copied()
+    }
+
+    /// The name with a number.
+    pub fn name(&self, number: usize) -> Option<&[u8]>
+        ensures { option_map (λ n. n.now) result ≡ slice_get self.now number }
+    {
+        match self.names.get(number) {
+            Some(name) => Some(name.as_bytes()),
+            None => None,
+        }
+    }
+
+    /// The number of a name, which comes to the end where it is not there yet.
+    ///
+    /// Where there is no memory for it, the names stay as they were.
+    pub fn put(&mut self, name: &[u8]) -> Result<usize, Memory>
+        ensures number { IfOk result (λ n. number_of self.new name.now ≡ Some n) }
+        ensures put { OnOk result (self.new ≡ put self.old name.now) }
+        ensures unchanged { OnErr result (self.new ≡ self.old) }
+    {
+        match self.number(name) {
+            Some(number) => Ok(number),
+            None => self.put_new(name),
+        }
+    }
+
+    /// Puts a name to the end that is not there yet.
+    fn put_new(&mut self, name: &[u8]) -> Result<usize, Memory>
+        requires { number_of self.old name.now ≡ None }
+        ensures number { IfOk result (λ n. n ≡ length self.old) }
+        ensures put { OnOk result (self.new ≡ self.old ++ name.now ∷ []) }
+        ensures unchanged { OnErr result (self.new ≡ self.old) }
+    {
+        let number = self.names.len();
+        let key = Vec::from_slice(self.alloc, name)?;
+        let text = Text::from_bytes(self.alloc, name)?;
+        self.names.push(text)?;
+        match self.numbers.insert(key, number) {
+            Ok(_) => Ok(number),
+            Err(_) => {
+                let _last = self.names.pop();
+                Err(Memory)
+            }
+        }
+    }
+}

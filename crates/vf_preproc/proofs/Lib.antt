@@ -1,0 +1,7 @@
+pub mod Replacing
+pub mod Lines
+pub mod Targeting
+pub mod Joining
+pub mod Loading
+pub mod Grouping
+pub mod Ending

@@ -1,0 +1,11 @@
+pub mod Macros
+pub mod Kept
+pub mod Frames
+pub mod Directives
+pub mod Answers
+pub mod Targets
+pub mod Keywords
+pub mod UnitText
+pub mod Scopes
+pub mod Units
+pub mod LineSteps

@@ -1,0 +1,37 @@
+//! Unit text: the tokens of a file, with those of each header at its first include, in which macros
+//! are replaced.
+//!
+//! `specs/UnitText.antt` says what the text of a unit is, and `header_at` there is recursive over
+//! files. The code has all that one file needs: lines, directives, groups, macros and their
+//! replacement, what an include means, the files with their tokens, and what a header leaves to its
+//! includer. The walk over the files is not here yet.
+#![tactic(auto)]
+
+mod fault;
+mod groups;
+mod include;
+mod include_target;
+mod join;
+mod macros;
+mod replace;
+mod scope;
+mod sources;
+mod steps;
+mod unit;
+mod words;
+
+pub use fault::ExpandFault;
+pub use groups::{Group, begin, end, is_taken, skip, turn};
+pub use include::{closed, opened};
+pub use include_target::{is_ghost_path, path_text, target};
+pub use join::with_header;
+pub use macros::Macros;
+pub use replace::{MOST_TOKENS, put_expanded};
+pub use scope::{Header, Scope, define, names_in};
+pub use sources::{Loaded, load};
+pub use steps::{File, Step, follow_line};
+pub use unit::Unit;
+pub use words::{Word, first_line, has_ghost, word_of};
+
+#[cfg(test)]
+mod tests;

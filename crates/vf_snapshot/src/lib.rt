@@ -1,0 +1,13 @@
+//! Files, each read once: what a path held when it was first asked for is what it holds from then on.
+#![tactic(auto)]
+
+mod held;
+mod path;
+mod snapshot;
+
+pub use held::{Held, SnapFault};
+pub use path::{normal_path, normal_path_of_bytes};
+pub use snapshot::Snapshot;
+
+#[cfg(test)]
+mod tests;
