@@ -1,39 +1,37 @@
 -- Structs are allocated and freed.
-use Rattle.std.proofs.Common.{◌≡◌, ◌≢◌, ℕ, zero, suc, ◌+◌, ◌<◌, ◌≤◌, ◌==◌, Bool, true, false, cond, List, [], ◌∷◌, length, slice_get, replicate, Option, Some, None, pos, refl, sym, ap, ap₂, subst, subst₂, ◌∙◌, ◌⊎◌, inl, inr, arith}
-use Rattle.std.specs.Prelude.{IsTrue, IsFalse, is_some}
+use Rattle.std.proofs.Common.{◌≡◌, ℕ, zero, suc, ◌<◌, ◌≤◌, Bool, true, false, List, [], ◌∷◌, length, slice_get, Option, Some, None, refl, sym, ap, subst, subst₂, ◌∙◌, inl, inr, arith}
+use Rattle.std.specs.Prelude.{IsFalse, is_some}
 use Rattle.std.specs.FinMap as finite
-use Rattle.std.specs.Ordering.{nat_cmp}
 use Rattle.std.proofs.lemmas.Bool.{false≢true, cases_Bool, cases_eq}
 use Rattle.vf_base.specs.declared.place.Place.{Place}
-use Rattle.vf_tree.specs.Core.{Identity, Field, ExpressionTree, StepTree, Allocate, Free, FunctionTree, ProgramTree}
+use Rattle.vf_tree.specs.Core.{Identity, ExpressionTree, Allocate, Free, ProgramTree}
 use Rattle.vf_model.specs.Values.{Dyadic, Value, same_identity}
 use Rattle.vf_model.specs.Values as values
-use Rattle.vf_model.specs.Memory.{Memory, Block, Struct, Ints, Mutex, Handle, Cell, block_at, HasCell, cells_at, granted_block, unset_cells, IsLeastFree}
-use Rattle.vf_model.specs.State.{Frame, Thread, State, Turn, at_step, with_local, with_frames, over_memory, goes_on, sets}
+use Rattle.vf_model.specs.Memory.{Memory, Block, Struct, Cell, block_at, cells_at, granted_block, unset_cells}
+use Rattle.vf_model.specs.State.{Frame, Thread, State, Turn, at_step, with_local, with_frames, over_memory, goes_on}
 use Rattle.vf_model.specs.Evaluation.{Gives, evaluate}
-use Rattle.vf_model.specs.Acts.{Touch, Act, Goes, Touches, Allocates, given}
-use Rattle.vf_model.specs.Accesses.{field_count, new_struct, allocates, frees_block, frees}
-use Rattle.vf_model.specs.Memory.{is_struct_block, pointed_at, block_number}
+use Rattle.vf_model.specs.Acts.{Goes, Touches, Allocates, given}
+use Rattle.vf_model.specs.Accesses.{field_count, new_struct, frees_block, frees}
+use Rattle.vf_model.specs.Memory.{is_struct_block}
 use Rattle.vf_model.specs.Races.{TouchesCell}
 use Rattle.vf_model.specs.Steps.{act_of}
 use Rattle.vf_model.proofs.FreeBlocks.{wanted_granted, least_granted}
-use Rattle.vf_meaning.specs.Fractions.{nought, whole, sum, IsPositive}
+use Rattle.vf_meaning.specs.Fractions.{whole, IsPositive}
 use Rattle.vf_meaning.specs.Valuations.{Valuation}
 use Rattle.vf_meaning.specs.Assertions.{BlockOf, Environment}
-use Rattle.vf_meaning.specs.Parts.{Location, FieldCell, StructBlock, Content, CellOf, Bare, Part, nothing, single, ◌⊕◌, IsSum, HasNone, HasJust}
+use Rattle.vf_meaning.specs.Parts.{Location, FieldCell, StructBlock, CellOf, Bare, Part, nothing, single, ◌⊕◌, IsSum, HasNone}
 use Rattle.vf_meaning.specs.Fits.{Fits}
 use Rattle.vf_meaning.specs.FitLaws.{FitTogether, IsAllOf}
 use Rattle.vf_meaning.specs.Chunks.{start_of}
 use Rattle.vf_meaning.specs.ShareOuts.{location_in, OwnsFor}
-use Rattle.vf_meaning.proofs.Parts.{sums_turn, sums_regroup, nothing_is_neutral, not_nought, nought_or_positive, in_left, in_right, sum_at, whole_is_alone}
-use Rattle.vf_meaning.proofs.FitSteps.{fields_are_there, structs_are_there, blocks_are_added, blocks_are_freed, block_here, block_elsewhere, removed_here, removed_elsewhere, own_identity, new_sum, sum_left}
+use Rattle.vf_meaning.proofs.Parts.{sums_turn, sums_regroup, nothing_is_neutral, not_nought, nought_or_positive, in_left, sum_at, whole_is_alone}
+use Rattle.vf_meaning.proofs.FitSteps.{fields_are_there, structs_are_there, blocks_are_added, block_here, block_elsewhere, removed_here, removed_elsewhere, own_identity, new_sum, sum_left}
 use Rattle.vf_rules.specs.Terms.{Term}
 use Rattle.vf_rules.specs.States.{Fact, CellOf, Of, SymbolicChunk, value_in, Meets, HeadMeans, ChunkMeans, ChunksMean}
 use Rattle.vf_rules.specs.States as states
 use Rattle.vf_rules.specs.Types.{IsTypedPart}
-use Rattle.vf_rules.specs.Take.{with_share}
-use Rattle.vf_rules.specs.Accept.{all_of_it, field_at, cell_chunk, block_chunk, new_chunks, TakesFields}
-use Rattle.vf_rules.proofs.Takes.{same_value, Parted, takes_parted}
+use Rattle.vf_rules.specs.Accept.{all_of_it, field_at, new_chunks, TakesFields}
+use Rattle.vf_rules.proofs.Takes.{same_value, takes_parted}
 use Rattle.vf_safety.specs.Safe.{IsShared, IsShaped}
 use Rattle.vf_safety.proofs.Steps.{turn_of, typed_sum, typed_single}
 use Rattle.vf_safety.proofs.Structs.{OwnsStruct, owns_block, owns_cell, all_of_struct}

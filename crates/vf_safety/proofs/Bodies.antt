@@ -1,27 +1,25 @@
 -- An accepted body is safe for every number of steps, where the functions of the program are safe for fewer.
-use Rattle.std.proofs.Common.{◌≡◌, ◌≢◌, ℕ, zero, suc, ◌<◌, ◌≤◌, ◌==◌, pos, Bool, true, false, cond, not, List, [], ◌∷◌, ◌++◌, length, map, slice_get, slice_set, Option, Some, None, refl, sym, ap, ap₂, subst, subst₂, ◌∙◌, ◌⊎◌, inl, inr, ⊎_elim, arith}
+use Rattle.std.proofs.Common.{◌≡◌, ◌≢◌, ℕ, zero, suc, ◌<◌, ◌==◌, pos, Bool, true, false, cond, not, List, [], ◌∷◌, ◌++◌, length, map, slice_get, slice_set, Option, Some, None, refl, sym, ap, subst, subst₂, ◌∙◌, inl, inr, arith}
 use Rattle.std.specs.Prelude.{IsTrue}
 use Rattle.std.specs.FinMap as finite
-use Rattle.std.proofs.lemmas.Bool.{false≢true, cases_Bool}
+use Rattle.std.proofs.lemmas.Bool.{cases_Bool}
 use Rattle.vf_base.specs.declared.place.Place.{Place}
 use Rattle.vf_tree.specs.Core.{Identity, Field, TypeTree, Void, ExpressionTree, Comparison, StepTree, Set, Load, Store, Allocate, Free, Call, If, Return, FunctionTree, ProgramTree, NotEqual}
 use Rattle.vf_model.specs.declared.words.FaultKind.{FaultKind}
 use Rattle.vf_model.specs.Values.{Dyadic, Value, compares}
 use Rattle.vf_model.specs.Values as values
-use Rattle.vf_model.specs.Memory.{Memory, block_at, Cell, granted_block, written}
+use Rattle.vf_model.specs.Memory.{block_at, granted_block, written}
 use Rattle.vf_model.specs.State.{Frame, Thread, State, Turn, Returned, at_step, with_local, with_frames, over_memory, goes_on, sets, entered, ended, function_named}
 use Rattle.vf_model.specs.State as state
-use Rattle.vf_model.specs.Evaluation.{Evaluated, Gives, evaluate, evaluate_all}
-use Rattle.vf_model.specs.Acts.{Touch, Act, Goes, Touches, Allocates, Faults, given}
+use Rattle.vf_model.specs.Evaluation.{Gives, evaluate, evaluate_all}
+use Rattle.vf_model.specs.Acts.{Touch, Goes, Touches, Allocates, Faults, given}
 use Rattle.vf_model.specs.Accesses.{touch_of, field_count, new_struct}
 use Rattle.vf_model.specs.Calls.{calls_named, calls_number, calls_body, returned_number, returns}
-use Rattle.vf_model.specs.Races.{TouchesCell}
 use Rattle.vf_model.specs.Steps.{act_of}
-use Rattle.vf_model.specs.Runs.{happens}
-use Rattle.vf_model.specs.PreludeFunctions.{PreludeFunction, prelude_named}
+use Rattle.vf_model.specs.PreludeFunctions.{prelude_named}
 use Rattle.vf_meaning.specs.Fractions.{whole, IsPositive}
 use Rattle.vf_meaning.specs.Ghost.{Sort, Pointers, Name, same_name, Numbered, Result, CurrentThread, Variable, Null, Not, Compare}
-use Rattle.vf_meaning.specs.Valuations.{Valuation, bound, is_true}
+use Rattle.vf_meaning.specs.Valuations.{Valuation, bound}
 use Rattle.vf_meaning.specs.GhostValues.{compared}
 use Rattle.vf_meaning.specs.Assertions.{ContractTree, Environment}
 use Rattle.vf_meaning.specs.Sorts.{HasSort, AreOfSorts}
@@ -29,41 +27,38 @@ use Rattle.vf_meaning.specs.Parts.{Location, FieldCell, Content, CellOf, Part, n
 use Rattle.vf_meaning.specs.Fits.{Fits}
 use Rattle.vf_meaning.specs.Chunks.{start_of, CellMeets}
 use Rattle.vf_meaning.specs.Satisfaction.{Satisfies, SatisfiesAt}
-use Rattle.vf_meaning.specs.ShareOuts.{location_in, OwnsFor}
 use Rattle.vf_meaning.specs.Kept.{IsFixed, Ensures, IsReturned, Returns, with_result, depth_in, depth}
 use Rattle.vf_meaning.proofs.Values.{tells_names}
-use Rattle.vf_meaning.proofs.Parts.{sums_turn, sums_regroup, nothing_is_neutral, nothing-⊕, in_left, in_right, single_here}
+use Rattle.vf_meaning.proofs.Parts.{sums_turn, nothing_is_neutral, nothing-⊕, in_left, single_here}
 use Rattle.vf_meaning.proofs.FitSteps.{fields_are_written, blocks_are_freed}
-use Rattle.vf_meaning.specs.FitLaws.{FitTogether}
 use Rattle.vf_rules.specs.Terms.{Term, stored}
 use Rattle.vf_rules.specs.Terms as terms
 use Rattle.vf_rules.specs.States.{Fact, Holds, OfSort, Of, SymbolicChunk, SymbolicState, value_in, IsMet, Meets, HeadMeans, ChunkMeans, ChunksMean, LocalsMean, StoreMeans, StandsFor, Entails, Infeasible, assuming, assuming_all, with_chunks}
 use Rattle.vf_rules.specs.States as states
 use Rattle.vf_rules.specs.Fresh.{symbol, IsNew, IsFresh}
-use Rattle.vf_rules.specs.Types.{IsOfType, facts_of_type, type_of_field, IsTypedPart}
+use Rattle.vf_rules.specs.Types.{facts_of_type, type_of_field, IsTypedPart}
 use Rattle.vf_rules.specs.Produce.{Produce}
-use Rattle.vf_rules.specs.Take.{same, Takes, Removes, Changes}
+use Rattle.vf_rules.specs.Take.{same, Takes, Removes}
 use Rattle.vf_rules.specs.Consume.{EntailsAll, Consume}
 use Rattle.vf_rules.specs.Laws.{Outcome, IsAmong, Grows, StoreSorted}
-use Rattle.vf_rules.specs.Predicates.{store_of, AreSorted, Opens, Closes}
+use Rattle.vf_rules.specs.Predicates.{store_of, AreSorted}
 use Rattle.vf_rules.specs.Evaluate.{Evaluates, EvaluatesAll, IsOfC}
 use Rattle.vf_rules.specs.Accept.{all_of_it, receiving, cell_chunk, new_chunks, TakesFields, facts_of_types, facts_of_result, call_store, HasContract, AreFixed, KeepsFixed, Accepts, do_set, do_if, do_load, do_store, do_allocate, do_free_null, do_free, do_call, do_return, do_leave, may_drop, may_change, may_open, may_close}
 use Rattle.vf_rules.specs.Accept as accept
-use Rattle.vf_rules.proofs.Terms.{fresh_value, fresh_store, stored_means, own_symbol, stored_own, stored_other}
+use Rattle.vf_rules.proofs.Terms.{fresh_store, stored_means, own_symbol, stored_own, stored_other}
 use Rattle.vf_rules.proofs.Stands.{stands_fresh, assuming_all_stands, assuming_stands, chunks_more}
 use Rattle.vf_rules.proofs.Produces.{produced, type_met}
 use Rattle.vf_rules.proofs.Takes.{same_value, takes_parted, removes_parted, changes_stand}
 use Rattle.vf_rules.proofs.Consumes.{consumed}
 use Rattle.vf_rules.proofs.Evaluates.{evaluates, evaluates_all}
 use Rattle.vf_rules.proofs.Opening.{opening_keeps, closing_keeps, completed, completed_means, completed_sorted}
-use Rattle.vf_safety.specs.Safe.{Duty, IsShared, IsShaped, Went, Secure, Safe, returned, IsResult, Continues}
+use Rattle.vf_safety.specs.Safe.{Duty, IsShaped, Went, Safe, returned, IsResult, Continues}
 use Rattle.vf_safety.proofs.Steps.{Here, turn_of, apart, together, secure, not_left, went_local, went_over, local_secure, reading_secure, writing_secure, same_place, typed_sum, typed_single, typed_of_left, typed_of_right, set_own, set_other, set_length}
-use Rattle.vf_safety.proofs.Cells.{FieldThere, field_there, the_cell, load_act, store_act, touched, store_unshared, whole_of, written_shaped}
-use Rattle.vf_safety.proofs.Structs.{OwnsStruct}
-use Rattle.vf_safety.proofs.Allocations.{new_struct_means, TakenStruct, takes_fields, granted_free, struct_shaped, struct_unshared, struct_added, StructThere, struct_there, free_act, free_null_act, removed_shaped, removed_unshared, freed_owned}
-use Rattle.vf_safety.proofs.Typing.{MayBe, may_is, is_may, type_back, AllMayBe, types_back, all_entailed, locals_set, bound_stored, result_sorted, compares_terms}
+use Rattle.vf_safety.proofs.Cells.{field_there, the_cell, load_act, store_act, touched, store_unshared, whole_of, written_shaped}
+use Rattle.vf_safety.proofs.Allocations.{new_struct_means, takes_fields, granted_free, struct_shaped, struct_unshared, struct_added, struct_there, free_act, free_null_act, removed_shaped, removed_unshared, freed_owned}
+use Rattle.vf_safety.proofs.Typing.{may_is, type_back, AllMayBe, types_back, all_entailed, locals_set, bound_stored, result_sorted, compares_terms}
 
-positive_whole : IsPositive whole
+pub positive_whole : IsPositive whole
 positive_whole = omega arith
 
 some_same : {A : Type 0} {x y : A} → Some x ≡ Some y → x ≡ y

@@ -1,16 +1,15 @@
 -- Reading and writing a field.
-use Rattle.std.proofs.Common.{◌≡◌, ◌≢◌, ℕ, zero, suc, ◌<◌, Bool, true, false, cond, List, [], ◌∷◌, length, slice_get, slice_set, Option, Some, None, pos, refl, sym, ap, ap₂, subst, ◌∙◌, ◌⊎◌, inl, inr, arith}
-use Rattle.std.specs.Prelude.{IsTrue, nat_lt}
-use Rattle.std.proofs.lemmas.Bool.{false≢true, cases_eq}
+use Rattle.std.proofs.Common.{◌≡◌, ℕ, zero, suc, ◌<◌, Bool, true, false, cond, List, [], ◌∷◌, length, slice_get, slice_set, Option, Some, None, refl, sym, ap, ap₂, subst, ◌∙◌, inl, inr, arith}
+use Rattle.std.specs.Prelude.{nat_lt}
+use Rattle.std.proofs.lemmas.Bool.{cases_eq}
 use Rattle.std.proofs.lemmas.Bool.Decides.{nat_tests}
 use Rattle.vf_base.specs.declared.place.Place.{Place}
-use Rattle.vf_tree.specs.Core.{Identity, Field, ExpressionTree, StepTree, Load, Store, FunctionTree, ProgramTree}
-use Rattle.vf_model.specs.Values.{Dyadic, Value, same_identity}
-use Rattle.vf_model.specs.Values as values
-use Rattle.vf_model.specs.Memory.{Memory, Block, Struct, Ints, Mutex, Handle, Cell, block_at, content, written, written_in, cell_within, field_in, field_cell, cells_at}
-use Rattle.vf_model.specs.State.{Frame, Thread, State, Turn, at_step, with_local, with_frames, over_memory}
+use Rattle.vf_tree.specs.Core.{Identity, Field, ExpressionTree, Load, Store, ProgramTree}
+use Rattle.vf_model.specs.Values.{Value}
+use Rattle.vf_model.specs.Memory.{Memory, Struct, Cell, block_at, content, written, written_in, cell_within, field_in, field_cell, cells_at}
+use Rattle.vf_model.specs.State.{Frame, Thread, State, at_step, with_local, with_frames, over_memory}
 use Rattle.vf_model.specs.Evaluation.{Gives, evaluate}
-use Rattle.vf_model.specs.Acts.{Touch, Act, Touches, given}
+use Rattle.vf_model.specs.Acts.{Touches, given}
 use Rattle.vf_model.specs.Accesses.{field_count, touch_of, loads_content, loads, stores}
 use Rattle.vf_model.specs.Races.{TouchesCell}
 use Rattle.vf_model.specs.Steps.{act_of}
@@ -18,7 +17,7 @@ use Rattle.vf_meaning.specs.Fractions.{nought, whole, sum, IsPositive}
 use Rattle.vf_meaning.specs.Parts.{Location, FieldCell, Content, CellOf, Part, single, IsSum}
 use Rattle.vf_meaning.specs.Fits.{Fits}
 use Rattle.vf_meaning.specs.Chunks.{start_of}
-use Rattle.vf_meaning.specs.ShareOuts.{location_in, OwnsFor}
+use Rattle.vf_meaning.specs.ShareOuts.{location_in}
 use Rattle.vf_meaning.proofs.Parts.{sums_regroup, nought_or_positive, not_nought, in_left, sum_at, whole_is_alone, single_here}
 use Rattle.vf_meaning.proofs.FitSteps.{fields_are_there, block_here, block_elsewhere, own_identity, sum_left}
 use Rattle.vf_safety.specs.Safe.{IsShared, IsShaped}

@@ -1,25 +1,19 @@
 -- One step of a thread over parts of memory, with no symbolic state.
-use Rattle.std.proofs.Common.{◌≡◌, ◌≢◌, ℕ, zero, suc, Bool, true, false, cond, List, [], ◌∷◌, length, slice_get, slice_set, Option, Some, None, pos, refl, sym, ap, ap₂, subst, ◌∙◌, ◌⊎◌, inl, inr}
-use Rattle.std.specs.Prelude.{IsTrue}
+use Rattle.std.proofs.Common.{◌≡◌, ◌≢◌, ℕ, zero, suc, List, [], ◌∷◌, length, slice_get, slice_set, Option, Some, None, refl, sym, ap, subst, ◌∙◌, inl, inr}
 use Rattle.vf_base.specs.declared.place.Place.{Place}
-use Rattle.vf_tree.specs.Core.{Identity, Field, Signature, ExpressionTree, StepTree, Call, CallPointer, Return, FunctionTree, ProgramTree}
-use Rattle.vf_model.specs.declared.words.Event.{Event}
+use Rattle.vf_tree.specs.Core.{StepTree, Call, CallPointer, Return, FunctionTree, ProgramTree}
 use Rattle.vf_model.specs.declared.words.FaultKind.{FaultKind}
 use Rattle.vf_model.specs.Values.{Dyadic, Value}
-use Rattle.vf_model.specs.Values as values
-use Rattle.vf_model.specs.Memory.{Memory, Block, Struct, Ints, Mutex, Handle, Cell, block_at}
+use Rattle.vf_model.specs.Memory.{Memory, Cell, block_at}
 use Rattle.vf_model.specs.State.{Frame, Thread, State, Turn, with_frames, over_memory}
-use Rattle.vf_model.specs.Acts.{Touch, Act, Goes, Touches, Allocates, Waits, Faults}
+use Rattle.vf_model.specs.Acts.{Touch, Act, Goes, Touches, Faults}
 use Rattle.vf_model.specs.Races.{TouchesCell}
 use Rattle.vf_model.specs.Steps.{act_of, act_at, act_in, act_by, next_act}
 use Rattle.vf_model.specs.Runs.{happens, after_unended, after}
-use Rattle.vf_model.specs.PreludeFunctions.{PreludeFunction, prelude_named}
-use Rattle.vf_meaning.specs.Fractions.{whole, IsPositive}
-use Rattle.vf_meaning.specs.Valuations.{Valuation}
-use Rattle.vf_meaning.specs.Assertions.{ContractTree, Environment}
+use Rattle.vf_model.specs.PreludeFunctions.{prelude_named}
+use Rattle.vf_meaning.specs.Assertions.{Environment}
 use Rattle.vf_meaning.specs.Parts.{Location, Content, Part, nothing, single, IsSum}
 use Rattle.vf_meaning.specs.Fits.{Fits}
-use Rattle.vf_meaning.specs.Satisfaction.{Satisfies}
 use Rattle.vf_meaning.specs.ShareOuts.{location_in, OwnsFor}
 use Rattle.vf_meaning.specs.Kept.{IsAt, Returns, Ensures, depth}
 use Rattle.vf_meaning.proofs.Parts.{sums_turn, sums_regroup, nothing_is_neutral, in_left, in_right, in_either, single_only}

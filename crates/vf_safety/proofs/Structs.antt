@@ -1,15 +1,15 @@
 -- All of a struct: its cells and its block, as they come with an allocation and go with a release.
-use Rattle.std.proofs.Common.{◌≡◌, ◌≢◌, ℕ, zero, suc, ◌+◌, ◌<◌, ◌≤◌, Bool, true, false, cond, List, [], ◌∷◌, length, slice_get, replicate, Option, Some, None, pos, refl, sym, ap, ap₂, subst, ◌∙◌, ◌⊎◌, inl, inr, arith}
-use Rattle.std.proofs.lemmas.Bool.{cases_Bool, cases_eq}
+use Rattle.std.proofs.Common.{◌≡◌, ◌≢◌, ℕ, zero, suc, ◌+◌, ◌<◌, ◌≤◌, true, false, cond, List, [], ◌∷◌, length, slice_get, Option, Some, None, refl, sym, ap, subst, ◌∙◌, ◌⊎◌, inl, inr, arith}
+use Rattle.std.proofs.lemmas.Bool.{cases_eq}
 use Rattle.std.specs.Cmp.Lexicographic.{bytes_decides}
 use Rattle.vf_tree.specs.Core.{Identity}
-use Rattle.vf_model.specs.Values.{Dyadic, Value, same_identity}
-use Rattle.vf_model.specs.Memory.{Block, Struct}
-use Rattle.vf_meaning.specs.Fractions.{nought, whole, sum, IsPositive}
-use Rattle.vf_meaning.specs.Parts.{Location, FieldCell, IndexCell, StructBlock, IntBlock, MutexAt, HeldAt, HandleAt, Content, CellOf, Bare, block_of, Part, nothing, single, ◌⊕◌, IsSum, HasNone, HasJust}
+use Rattle.vf_model.specs.Values.{Value, same_identity}
+use Rattle.vf_model.specs.Memory.{Struct}
+use Rattle.vf_meaning.specs.Fractions.{whole}
+use Rattle.vf_meaning.specs.Parts.{Location, FieldCell, IndexCell, StructBlock, IntBlock, MutexAt, HeldAt, HandleAt, Content, CellOf, Bare, block_of, Part, single, IsSum, HasNone, HasJust}
 use Rattle.vf_meaning.specs.Fits.{cell_content, HasThere, FitsAt}
 use Rattle.vf_meaning.specs.FitLaws.{IsAllOf}
-use Rattle.vf_meaning.proofs.Parts.{single_here, singles_have_just_that, sum_at}
+use Rattle.vf_meaning.proofs.Parts.{singles_have_just_that, sum_at}
 use Rattle.vf_meaning.proofs.FitSteps.{identities, own_identity, single_nought, sum_right, sum_left}
 
 -- a part is the whole of n cells of a struct from a field on, what each holds being as P says, and of its block, and nothing else

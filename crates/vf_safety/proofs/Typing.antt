@@ -1,12 +1,12 @@
 -- What facts of types and sorts say of values, and locals, stores and comparisons.
-use Rattle.std.proofs.Common.{◌≡◌, ◌≢◌, ℕ, zero, suc, ℤ, pos, Bool, true, false, cond, not, List, [], ◌∷◌, ◌++◌, length, map, replicate, slice_get, slice_set, Option, Some, None, refl, sym, ap, ap₂, subst, ◌∙◌, ◌⊎◌, inl, inr, ⊎_elim, arith}
-use Rattle.std.specs.Prelude.{IsTrue, ◌≤ℤ◌, int_le}
+use Rattle.std.proofs.Common.{◌≡◌, ◌≢◌, ℕ, zero, suc, ℤ, true, cond, not, List, [], ◌∷◌, ◌++◌, map, slice_set, Option, Some, None, refl, sym, ap, subst, ◌∙◌, ◌⊎◌, inl, inr, ⊎_elim, arith}
+use Rattle.std.specs.Prelude.{◌≤ℤ◌, int_le}
 use Rattle.std.specs.Bool.{MatchBool}
 use Rattle.std.proofs.lemmas.Int.{ints}
-use Rattle.std.proofs.lemmas.Bool.{false≢true, cases_Bool}
+use Rattle.std.proofs.lemmas.Bool.{cases_Bool}
 use Rattle.vf_base.specs.declared.int_type.IntType.{IntType}
 use Rattle.vf_tree.specs.Core.{TypeTree, Void, Integer, PointerToVoid, PointerToInt, PointerToStruct, PointerToFunction, Comparison, Equal, NotEqual, Less, LessEqual, Greater, GreaterEqual}
-use Rattle.vf_model.specs.Integers.{least, greatest, InRange}
+use Rattle.vf_model.specs.Integers.{least, greatest}
 use Rattle.vf_model.specs.Values.{Value, compares, same_value}
 use Rattle.vf_model.specs.Values as values
 use Rattle.vf_meaning.specs.Ghost.{ConstructorTree, Sort, Integers, Truths, Pointers, Name, Numbered, Result, This, CurrentThread, same_name, Number, Compare}
@@ -15,15 +15,13 @@ use Rattle.vf_meaning.specs.Valuations.{Valuation, bound, is_same}
 use Rattle.vf_meaning.specs.GhostValues.{compared}
 use Rattle.vf_meaning.specs.Assertions.{Environment}
 use Rattle.vf_meaning.specs.Sorts.{IsDatatypeOf, HasSort, AreOfSorts}
-use Rattle.vf_meaning.proofs.Values.{tells_names}
 use Rattle.vf_rules.specs.Terms.{Term, Store, stored}
-use Rattle.vf_rules.specs.States.{Fact, Holds, OfSort, value_in, Meets, LocalsMean, StoreMeans, Entails}
+use Rattle.vf_rules.specs.States.{Fact, Holds, OfSort, value_in, Meets, LocalsMean, StoreMeans}
 use Rattle.vf_rules.specs.Types.{IsPointer, is_bool, IsTruth, IsNumberIn, IsOfInteger, IsOfType, facts_of_integer, facts_of_type}
 use Rattle.vf_rules.specs.Consume.{EntailsAll}
 use Rattle.vf_rules.specs.Accept.{facts_of_types}
 use Rattle.vf_rules.specs.Evaluate.{IsOfC}
 use Rattle.vf_rules.proofs.Evaluates.{number_sort}
-use Rattle.vf_rules.proofs.Stands.{meets_more}
 
 some_same : {A : Type 0} {x y : A} → Some x ≡ Some y → x ≡ y
 some_same e = cc

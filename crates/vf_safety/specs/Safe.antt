@@ -5,8 +5,7 @@ use Rattle.vf_tree.specs.Core.{Identity, Signature, ExpressionTree, Call, CallPo
 use Rattle.vf_model.specs.declared.words.Event.{Event}
 use Rattle.vf_model.specs.declared.words.FaultKind.{FaultKind}
 use Rattle.vf_model.specs.Values.{Value}
-use Rattle.vf_model.specs.Values as values
-use Rattle.vf_model.specs.Memory.{Memory, Block, Struct, Ints, Mutex, Handle, Cell, block_at}
+use Rattle.vf_model.specs.Memory.{Memory, Block, Struct, Mutex, Handle, Cell, block_at}
 use Rattle.vf_model.specs.Accesses.{field_count}
 use Rattle.vf_model.specs.State.{Frame, Thread, State}
 use Rattle.vf_model.specs.State as state
@@ -14,7 +13,7 @@ use Rattle.vf_model.specs.Acts.{Touch, Faults, Touches}
 use Rattle.vf_model.specs.Races.{TouchesCell}
 use Rattle.vf_model.specs.Steps.{next_act}
 use Rattle.vf_model.specs.Runs.{after}
-use Rattle.vf_model.specs.PreludeFunctions.{PreludeFunction, prelude_named}
+use Rattle.vf_model.specs.PreludeFunctions.{prelude_named}
 use Rattle.vf_meaning.specs.Valuations.{Valuation}
 use Rattle.vf_meaning.specs.Assertions.{ContractTree, Environment}
 use Rattle.vf_meaning.specs.Parts.{Location, Part, IsSum}

@@ -1,0 +1,5 @@
+use Rattle.vf_safety.proofs.Functions.{accepted_threads_are_safe}
+use Rattle.vf_safety.proofs.laws.accepted_threads_are_safe.Goals as goal
+
+pub returns : goal.returns
+returns c = accepted_threads_are_safe

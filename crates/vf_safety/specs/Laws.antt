@@ -1,0 +1,53 @@
+-- What is safe once it is accepted. Each law is the contract of a public function with an empty body.
+use Rattle.std.specs.Prelude.{◌≡◌, ℕ, pos, List, [], ◌∷◌, slice_get, Option, Some, None}
+use Rattle.vf_tree.specs.Core.{TypeTree, FunctionTree, ProgramTree}
+use Rattle.vf_model.specs.Values.{Value}
+use Rattle.vf_model.specs.Values as values
+use Rattle.vf_model.specs.State.{Thread, entered}
+use Rattle.vf_meaning.specs.Fractions.{whole}
+use Rattle.vf_meaning.specs.Ghost.{Numbered, CurrentThread}
+use Rattle.vf_meaning.specs.Valuations.{Valuation}
+use Rattle.vf_meaning.specs.Assertions.{ContractTree, Environment}
+use Rattle.vf_meaning.specs.Sorts.{AreOfSorts}
+use Rattle.vf_meaning.specs.Parts.{Part, nothing, IsSum}
+use Rattle.vf_meaning.specs.Satisfaction.{Satisfies}
+use Rattle.vf_rules.specs.Types.{IsOfType, IsTypedPart}
+use Rattle.vf_rules.specs.Accept.{HasContract, IsAcceptedFunction}
+use Rattle.vf_safety.specs.Safe.{Duty, Safe, Continues}
+
+-- values are of the types of parameters, one by one
+abbrev pub AreOfTypes : List TypeTree → List Value → Type 0
+AreOfTypes [] [] = Unit {0}
+AreOfTypes (t ∷ types) (w ∷ ws) = IsOfType t w × AreOfTypes types ws
+AreOfTypes _ _ = ⊥
+
+-- each function of a program that has a contract is accepted under it
+abbrev pub AreAccepted : Environment → ProgramTree → Type 0
+AreAccepted e p = (number : ℕ) (f : FunctionTree) (k : ContractTree) → slice_get p.functions number ≡ Some f → HasContract e f k → IsAcceptedFunction e p f k
+
+-- a thread's part lets it call a function with arguments: they are of the parameters' types, and beside a rest the part is one that satisfies the precondition, under a valuation that gives the parameters the arguments, the thread its number, and each name a value of its sort
+pub record MayCall (e : Environment) (p : ProgramTree) (t number : ℕ) (f : FunctionTree) (k : ContractTree) (arguments : List Value) (names : Valuation) (rest own : Part) : Type 0 where
+  pub function : slice_get p.functions number ≡ Some f
+  pub contract : HasContract e f k
+  pub types : AreOfTypes f.signature.parameters arguments
+  pub begins : (j : ℕ) (w : Value) → slice_get arguments j ≡ Some w → names (Numbered j) ≡ w
+  pub thread : names CurrentThread ≡ values.Number (pos t)
+  pub of_sorts : AreOfSorts e names k.sorts
+  pub passed : Part
+  pub required : Satisfies e whole k.requires_this names passed
+  pub typed : IsTypedPart e p own
+  pub sums : IsSum passed rest own
+
+-- in a program whose functions are accepted, a call of one is safe for n steps beside whatever a thread keeps, where what comes after the call is, for fewer steps, with every part that satisfies the postcondition
+abbrev pub AcceptedCallsAreSafe : Type 0
+AcceptedCallsAreSafe =
+    (e : Environment) (p : ProgramTree) → AreAccepted e p → (t : ℕ) (duty : Duty) (number : ℕ) (f : FunctionTree) (k : ContractTree) (arguments : List Value) (names : Valuation) (rest own : Part)
+    → MayCall e p t number f k arguments names rest own → (callers : Thread) (target : Option ℕ) (n : ℕ)
+    → Continues e p t duty n callers target f.signature.result k names rest → Safe e p t duty n (entered number f arguments target ∷ callers) own
+
+-- in a program whose functions are accepted, a thread whose first call is of one is safe for every number of steps, and its duty is the postcondition
+abbrev pub AcceptedThreadsAreSafe : Type 0
+AcceptedThreadsAreSafe =
+    (e : Environment) (p : ProgramTree) → AreAccepted e p → (t number : ℕ) (f : FunctionTree) (k : ContractTree) (arguments : List Value) (names : Valuation) (own rest : Part)
+    → rest ≡ nothing → MayCall e p t number f k arguments names rest own → (n : ℕ)
+    → Safe e p t (record { contract = k; names = names }) n (entered number f arguments None ∷ []) own
