@@ -18,3 +18,6 @@ pub mod GhostCommandShown
 pub mod StmtTree
 pub mod StmtCodes
 pub mod StmtShown
+pub mod Walks
+pub mod Written
+pub mod Expressions

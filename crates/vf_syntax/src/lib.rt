@@ -13,6 +13,7 @@ pub mod item;
 pub mod keyword;
 pub mod operator;
 pub mod pattern;
+pub mod side;
 pub mod simple;
 pub mod sort;
 pub mod stmt;
