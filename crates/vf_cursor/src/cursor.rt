@@ -124,6 +124,19 @@ impl<'a> Cursor<'a> {
         }
     }
 
+    /// The tokens behind the next so many, which are still to be read here.
+    pub fn ahead(&self, count: usize) -> Cursor<'a> {
+        let left = match self.left.get(count..) {
+            Some(left) => left,
+            None => &[],
+        };
+        Cursor {
+            alloc: self.alloc,
+            left,
+            end: self.end,
+        }
+    }
+
     /// The place of the next token, or of the file's end.
     pub fn place(&self) -> Place {
         match self.left {

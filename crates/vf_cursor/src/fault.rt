@@ -1,5 +1,6 @@
 //! Why a text is not read.
 
+use std::alloc::AllocFailed;
 use vf_base::{Memory, Place};
 
 /// Why a list of tokens gives no tree.
@@ -21,6 +22,17 @@ impl From<Memory> for ParseFault {
     ghost from_gives = { λ _ e. e ≡ faults.Memory };
 
     fn from(_: Memory) -> ParseFault {
+        ParseFault::Memory
+    }
+}
+
+impl<T: Drop> From<AllocFailed<T>> for ParseFault {
+    ghost use Rattle.std.specs.Prelude.{◌≡◌};
+    ghost use Rattle.vf_cursor.specs.declared.fault.ParseFault.TheVariants as faults;
+
+    ghost from_gives = { λ _ e. e ≡ faults.Memory };
+
+    fn from(_: AllocFailed<T>) -> ParseFault {
         ParseFault::Memory
     }
 }

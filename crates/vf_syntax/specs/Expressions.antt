@@ -10,7 +10,7 @@ use Rattle.vf_syntax.specs.Walks.{Walk, ◌⨾◌, nothing, never, provided, at,
 use Rattle.vf_syntax.specs.Written.{name, ctype, unary_mark, binary_mark, level_of, looseness}
 
 -- how loosely an expression holds together, from 0 for a primary expression to 9 for a conditional
-unfoldable pub rank : ExprTree → ℕ
+abbrev pub rank : ExprTree → ℕ
 rank (tree.postfix p a parts) = 1
 rank (tree.unary p o a) = 2
 rank (tree.cast p t a) = 2

@@ -21,3 +21,9 @@ pub mod StmtShown
 pub mod Walks
 pub mod Written
 pub mod Expressions
+pub mod Lists
+pub mod GhostExpressions
+pub mod Assertions
+pub mod Commands
+pub mod Statements
+pub mod Units
