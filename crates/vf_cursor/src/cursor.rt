@@ -5,7 +5,7 @@ ghost use Rattle.std.specs.Str.{bytes_eq};
 ghost use Rattle.vf_syntax.specs.Walks.{head_has, is_on, is_mark, is_word, is_name, is_wild, is_word_kind, at, mark, word, identifier, number, character, wild};
 ghost use Rattle.vf_syntax.specs.Written.{name};
 
-use crate::fault::ParseFault;
+use crate::fault::Stop;
 use std::alloc::Global;
 use vf_base::{IntType, Memory, Place, Text};
 use vf_lexer::{Kind, Punctuator, Token};
@@ -124,6 +124,25 @@ impl<'a> Cursor<'a> {
         }
     }
 
+    /// Whether the next token is one of ghost text.
+    pub fn sees_ghost(&self) -> bool {
+        match self.left {
+            [] => false,
+            [first, ..] => first.is_ghost,
+        }
+    }
+
+    /// The same tokens, which are still to be read here.
+    pub fn copy(&self) -> Cursor<'a>
+        ensures { result.left.now ≡ self.now.left.now }
+    {
+        Cursor {
+            alloc: self.alloc,
+            left: self.left,
+            end: self.end,
+        }
+    }
+
     /// The tokens behind the next so many, which are still to be read here.
     pub fn ahead(&self, count: usize) -> Cursor<'a> {
         let left = match self.left.get(count..) {
@@ -147,18 +166,18 @@ impl<'a> Cursor<'a> {
 
     /// The place of the next token.
     #[tactic(auto, using(crate::proofs::Same::place_same), unfolding(vf_syntax::specs::Walks::at))]
-    pub fn here(&self) -> Result<Place, ParseFault>
+    pub fn here(&self) -> Result<Place, Stop>
         ensures { IfOk result (λ p. at p self.now.left.now ≡ Some self.now.left.now) }
     {
         match self.left {
-            [] => Err(ParseFault::Syntax(self.end)),
+            [] => Err(Stop::Syntax(self.end)),
             [first, ..] => Ok(first.place),
         }
     }
 
     /// Takes a punctuator, and gives its place.
     #[tactic(auto, using(crate::proofs::Same::place_same), unfolding(vf_syntax::specs::Walks::at, vf_syntax::specs::Walks::mark))]
-    pub fn mark(&mut self, side: Side, punctuator: Punctuator) -> Result<Place, ParseFault>
+    pub fn mark(&mut self, side: Side, punctuator: Punctuator) -> Result<Place, Stop>
         ensures place { IfOk result (λ p. at p self.old.left.now ≡ Some self.old.left.now) }
         ensures taken { IfOk result (λ _. mark side punctuator self.old.left.now ≡ Some self.new.left.now) }
     {
@@ -168,13 +187,13 @@ impl<'a> Cursor<'a> {
                 self.left = rest;
                 Ok(place)
             }
-            _ => Err(ParseFault::Syntax(self.place())),
+            _ => Err(Stop::Syntax(self.place())),
         }
     }
 
     /// Takes a keyword, and gives its place.
     #[tactic(auto, using(crate::proofs::Same::place_same), unfolding(vf_syntax::specs::Walks::at, vf_syntax::specs::Walks::word))]
-    pub fn word(&mut self, side: Side, keyword: Keyword) -> Result<Place, ParseFault>
+    pub fn word(&mut self, side: Side, keyword: Keyword) -> Result<Place, Stop>
         ensures place { IfOk result (λ p. at p self.old.left.now ≡ Some self.old.left.now) }
         ensures taken { IfOk result (λ _. word side keyword self.old.left.now ≡ Some self.new.left.now) }
     {
@@ -184,13 +203,13 @@ impl<'a> Cursor<'a> {
                 self.left = rest;
                 Ok(place)
             }
-            _ => Err(ParseFault::Syntax(self.place())),
+            _ => Err(Stop::Syntax(self.place())),
         }
     }
 
     /// Takes the wild pattern, and gives its place.
     #[tactic(auto, using(crate::proofs::Same::place_same), unfolding(vf_syntax::specs::Walks::at, vf_syntax::specs::Walks::wild))]
-    pub fn wild(&mut self) -> Result<Place, ParseFault>
+    pub fn wild(&mut self) -> Result<Place, Stop>
         ensures place { IfOk result (λ p. at p self.old.left.now ≡ Some self.old.left.now) }
         ensures taken { IfOk result (λ _. wild self.old.left.now ≡ Some self.new.left.now) }
     {
@@ -200,13 +219,13 @@ impl<'a> Cursor<'a> {
                 self.left = rest;
                 Ok(place)
             }
-            _ => Err(ParseFault::Syntax(self.place())),
+            _ => Err(Stop::Syntax(self.place())),
         }
     }
 
     /// Takes a name, and gives its text.
     #[tactic(auto, unfolding(vf_syntax::specs::Walks::identifier))]
-    pub fn identifier(&mut self, side: Side) -> Result<Text, ParseFault>
+    pub fn identifier(&mut self, side: Side) -> Result<Text, Stop>
         ensures { IfOk result (λ x. identifier side x self.old.left.now ≡ Some self.new.left.now) }
     {
         match self.left {
@@ -215,13 +234,13 @@ impl<'a> Cursor<'a> {
                 self.left = rest;
                 Ok(text)
             }
-            _ => Err(ParseFault::Syntax(self.place())),
+            _ => Err(Stop::Syntax(self.place())),
         }
     }
 
     /// Takes a name with its place.
     #[tactic(auto, unfolding(vf_syntax::specs::Written::name))]
-    pub fn name(&mut self, side: Side) -> Result<Name, ParseFault>
+    pub fn name(&mut self, side: Side) -> Result<Name, Stop>
         ensures { IfOk result (λ n. name side n self.old.left.now ≡ Some self.new.left.now) }
     {
         let place = self.here()?;
@@ -242,18 +261,18 @@ impl<'a> Cursor<'a> {
 
     /// Takes a number, and gives it with its type.
     #[tactic(auto, using(crate::proofs::Same::number_same), unfolding(vf_syntax::specs::Walks::number))]
-    pub fn number(&mut self, side: Side) -> Result<(u64, IntType), ParseFault>
+    pub fn number(&mut self, side: Side) -> Result<(u64, IntType), Stop>
         ensures { IfOk result (λ n. number side n.0 n.1 self.old.left.now ≡ Some self.new.left.now) }
     {
         let place = self.place();
         match self.left {
-            [] => Err(ParseFault::Syntax(place)),
+            [] => Err(Stop::Syntax(place)),
             [first, rest @ ..] => match first.kind {
                 Kind::Number { value, int_type } if is_on(side, first) => {
                     self.left = rest;
                     Ok((value, int_type))
                 }
-                _ => Err(ParseFault::Syntax(place)),
+                _ => Err(Stop::Syntax(place)),
             },
         }
     }
@@ -271,18 +290,18 @@ impl<'a> Cursor<'a> {
 
     /// Takes a character constant, and gives the value of its byte.
     #[tactic(auto, using(crate::proofs::Same::number_same), unfolding(vf_syntax::specs::Walks::character))]
-    pub fn character(&mut self) -> Result<u8, ParseFault>
+    pub fn character(&mut self) -> Result<u8, Stop>
         ensures { IfOk result (λ n. character n self.old.left.now ≡ Some self.new.left.now) }
     {
         let place = self.place();
         match self.left {
-            [] => Err(ParseFault::Syntax(place)),
+            [] => Err(Stop::Syntax(place)),
             [first, rest @ ..] => match first.kind {
                 Kind::Character { value } if is_on(Side::Real, first) => {
                     self.left = rest;
                     Ok(value)
                 }
-                _ => Err(ParseFault::Syntax(place)),
+                _ => Err(Stop::Syntax(place)),
             },
         }
     }

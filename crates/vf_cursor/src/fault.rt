@@ -1,13 +1,11 @@
-//! Why a text is not read.
+//! Why reading stops.
 
 use std::alloc::AllocFailed;
 use vf_base::{Memory, Place};
 
-/// Why a list of tokens gives no tree.
+/// Why tokens give no tree.
 #[derive(Clone, Copy, Debug, PartialEq, Eq)]
-pub enum ParseFault {
-    /// A token of a part of C that is not supported.
-    Unsupported(Place),
+pub enum Stop {
     /// A token that can't stand there, or the end of the file.
     Syntax(Place),
     /// A token that stands too deep.
@@ -15,24 +13,24 @@ pub enum ParseFault {
     Memory,
 }
 
-impl From<Memory> for ParseFault {
+impl From<Memory> for Stop {
     ghost use Rattle.std.specs.Prelude.{◌≡◌};
-    ghost use Rattle.vf_cursor.specs.declared.fault.ParseFault.TheVariants as faults;
+    ghost use Rattle.vf_cursor.specs.declared.fault.Stop.TheVariants as stops;
 
-    ghost from_gives = { λ _ e. e ≡ faults.Memory };
+    ghost from_gives = { λ _ e. e ≡ stops.Memory };
 
-    fn from(_: Memory) -> ParseFault {
-        ParseFault::Memory
+    fn from(_: Memory) -> Stop {
+        Stop::Memory
     }
 }
 
-impl<T: Drop> From<AllocFailed<T>> for ParseFault {
+impl<T: Drop> From<AllocFailed<T>> for Stop {
     ghost use Rattle.std.specs.Prelude.{◌≡◌};
-    ghost use Rattle.vf_cursor.specs.declared.fault.ParseFault.TheVariants as faults;
+    ghost use Rattle.vf_cursor.specs.declared.fault.Stop.TheVariants as stops;
 
-    ghost from_gives = { λ _ e. e ≡ faults.Memory };
+    ghost from_gives = { λ _ e. e ≡ stops.Memory };
 
-    fn from(_: AllocFailed<T>) -> ParseFault {
-        ParseFault::Memory
+    fn from(_: AllocFailed<T>) -> Stop {
+        Stop::Memory
     }
 }

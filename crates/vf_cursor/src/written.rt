@@ -4,7 +4,7 @@ ghost use Rattle.std.specs.Prelude.{◌≡◌, Some, IfOk};
 ghost use Rattle.vf_syntax.specs.Written.{sign, width, integer, type_form, ctype};
 
 use crate::cursor::Cursor;
-use crate::fault::ParseFault;
+use crate::fault::Stop;
 use vf_lexer::Punctuator;
 use vf_syntax::keyword::Keyword;
 use vf_syntax::side::Side;
@@ -34,7 +34,7 @@ impl<'a> Cursor<'a> {
     }
 
     #[tactic(auto, unfolding(vf_syntax::specs::Written::sign))]
-    fn sign(&mut self, side: Side) -> Result<Sign, ParseFault>
+    fn sign(&mut self, side: Side) -> Result<Sign, Stop>
         ensures { IfOk result (λ g. sign side g self.old.left.now ≡ Some self.new.left.now) }
     {
         if self.sees_word(side, Keyword::Signed) {
@@ -47,7 +47,7 @@ impl<'a> Cursor<'a> {
     }
 
     #[tactic(auto, unfolding(vf_syntax::specs::Written::width))]
-    fn width(&mut self, side: Side) -> Result<Width, ParseFault>
+    fn width(&mut self, side: Side) -> Result<Width, Stop>
         ensures { IfOk result (λ w. width side w self.old.left.now ≡ Some self.new.left.now) }
     {
         if self.sees_word(side, Keyword::Char) {
@@ -65,7 +65,7 @@ impl<'a> Cursor<'a> {
     }
 
     #[tactic(auto, unfolding(vf_syntax::specs::Written::width))]
-    fn short_width(&mut self, side: Side) -> Result<Width, ParseFault>
+    fn short_width(&mut self, side: Side) -> Result<Width, Stop>
         ensures { IfOk result (λ w. width side w self.old.left.now ≡ Some self.new.left.now) }
     {
         self.word(side, Keyword::Short)?;
@@ -78,7 +78,7 @@ impl<'a> Cursor<'a> {
     }
 
     #[tactic(auto, unfolding(vf_syntax::specs::Written::width))]
-    fn long_width(&mut self, side: Side) -> Result<Width, ParseFault>
+    fn long_width(&mut self, side: Side) -> Result<Width, Stop>
         ensures { IfOk result (λ w. width side w self.old.left.now ≡ Some self.new.left.now) }
     {
         self.word(side, Keyword::Long)?;
@@ -99,7 +99,7 @@ impl<'a> Cursor<'a> {
     }
 
     #[tactic(auto, unfolding(vf_syntax::specs::Written::integer))]
-    fn integer(&mut self, side: Side) -> Result<IntegerWords, ParseFault>
+    fn integer(&mut self, side: Side) -> Result<IntegerWords, Stop>
         ensures { IfOk result (λ w. integer side w self.old.left.now ≡ Some self.new.left.now) }
     {
         if !self.sees_sign(side) {
@@ -116,7 +116,7 @@ impl<'a> Cursor<'a> {
     }
 
     #[tactic(auto, unfolding(vf_syntax::specs::Written::type_form))]
-    fn type_form(&mut self, side: Side) -> Result<TypeForm, ParseFault>
+    fn type_form(&mut self, side: Side) -> Result<TypeForm, Stop>
         ensures { IfOk result (λ f. type_form side f self.old.left.now ≡ Some self.new.left.now) }
     {
         if self.sees_word(side, Keyword::Bool) {
@@ -144,7 +144,7 @@ impl<'a> Cursor<'a> {
 
     /// An integer type, or a pointer to `int`.
     #[tactic(auto, unfolding(vf_syntax::specs::Written::type_form, vf_syntax::specs::Written::integer, vf_syntax::specs::Written::width))]
-    fn number_type(&mut self, side: Side) -> Result<TypeForm, ParseFault>
+    fn number_type(&mut self, side: Side) -> Result<TypeForm, Stop>
         ensures { IfOk result (λ f. type_form side f self.old.left.now ≡ Some self.new.left.now) }
     {
         let words = self.integer(side)?;
@@ -159,7 +159,7 @@ impl<'a> Cursor<'a> {
 
     /// A type.
     #[tactic(auto, unfolding(vf_syntax::specs::Written::ctype))]
-    pub fn ctype(&mut self, side: Side) -> Result<CType, ParseFault>
+    pub fn ctype(&mut self, side: Side) -> Result<CType, Stop>
         ensures { IfOk result (λ t. ctype side t self.old.left.now ≡ Some self.new.left.now) }
     {
         let place = self.here()?;

@@ -26,7 +26,7 @@ factor (factors.Number n ty p) = at p ⨾ number Ghost n ty
 factor (factors.Name n) = name Ghost n
 
 -- `*` or `/` and a factor
-abbrev pub factor_link : FactorLink → Walk
+unfoldable pub factor_link : FactorLink → Walk
 factor_link l = mark Ghost (if l.divides then punctuators.Slash else punctuators.Star) ⨾ factor l.factor
 
 -- what stands between the brackets of a share

@@ -1,0 +1,4 @@
+//! The parser of C with its annotations.
+#![tactic(auto)]
+
+mod expr;
