@@ -6,7 +6,7 @@ ghost use Rattle.vf_syntax.specs.Written.{looseness, level_of};
 ghost use Rattle.vf_syntax.specs.Expressions.{is_operand, rank, expr, link, links, postfix, postfixes, arguments, more_arguments, nesting, link_nesting, links_nesting, part_nesting, postfix_nesting, arguments_nesting};
 
 use vf_cursor::cursor::Cursor;
-use vf_cursor::fault::ParseFault;
+use vf_cursor::fault::Stop;
 use vf_lexer::Punctuator;
 use vf_syntax::expr::{Expr, ExprList, ExprNode, Link, LinkList, Postfix, PostfixList, PostfixNode};
 use vf_syntax::keyword::Keyword;
@@ -15,18 +15,18 @@ use vf_syntax::side::Side;
 
 /// An expression with at most so much nesting, itself counted.
 #[cycle(expr)]
-pub fn expr(cursor: &mut Cursor, depth: u32) -> Result<Expr, ParseFault>
+pub fn expr(cursor: &mut Cursor, depth: u32) -> Result<Expr, Stop>
     ensures spelled { IfOk result (λ e. expr e cursor.old.left.now ≡ Some cursor.new.left.now) }
     ensures nested { IfOk result (λ e. nesting e + 1 ≤ depth) }
 {
     if depth == 0 {
-        return Err(ParseFault::Depth(cursor.place()));
+        return Err(Stop::Depth(cursor.place()));
     }
     conditional(cursor, depth - 1)
 }
 
 #[cycle(expr)]
-fn conditional(cursor: &mut Cursor, depth: u32) -> Result<Expr, ParseFault>
+fn conditional(cursor: &mut Cursor, depth: u32) -> Result<Expr, Stop>
     ensures spelled { IfOk result (λ e. expr e cursor.old.left.now ≡ Some cursor.new.left.now) }
     ensures nested { IfOk result (λ e. nesting e ≤ depth) }
 {
@@ -52,7 +52,7 @@ fn conditional(cursor: &mut Cursor, depth: u32) -> Result<Expr, ParseFault>
 /// Operands joined by operators of a level, or one operand.
 #[cycle(expr)]
 #[tactic(auto, using(crate::proofs::Lists::some_links))]
-fn chain(cursor: &mut Cursor, depth: u32, level: Level) -> Result<Expr, ParseFault>
+fn chain(cursor: &mut Cursor, depth: u32, level: Level) -> Result<Expr, Stop>
     ensures spelled { IfOk result (λ e. expr e cursor.old.left.now ≡ Some cursor.new.left.now) }
     ensures nested { IfOk result (λ e. nesting e ≤ depth) }
     ensures rank { IfOk result (λ e. rank e ≤ looseness level) }
@@ -72,7 +72,7 @@ fn chain(cursor: &mut Cursor, depth: u32, level: Level) -> Result<Expr, ParseFau
 
 /// An operand of a level.
 #[cycle(expr)]
-fn operand(cursor: &mut Cursor, depth: u32, level: Level) -> Result<Expr, ParseFault>
+fn operand(cursor: &mut Cursor, depth: u32, level: Level) -> Result<Expr, Stop>
     ensures spelled { IfOk result (λ e. expr e cursor.old.left.now ≡ Some cursor.new.left.now) }
     ensures nested { IfOk result (λ e. nesting e ≤ depth) }
     ensures rank { IfOk result (λ e. rank e < looseness level) }
@@ -91,7 +91,7 @@ fn operand(cursor: &mut Cursor, depth: u32, level: Level) -> Result<Expr, ParseF
 /// All links of a level that come next.
 #[cycle(expr)]
 #[tactic(auto, using(crate::proofs::Lists::links_push, crate::proofs::Lists::links_nesting_push))]
-fn links(cursor: &mut Cursor, depth: u32, level: Level) -> Result<LinkList, ParseFault>
+fn links(cursor: &mut Cursor, depth: u32, level: Level) -> Result<LinkList, Stop>
     ensures spelled { IfOk result (λ xs. links level (link_list xs) cursor.old.left.now ≡ Some cursor.new.left.now) }
     ensures nested { IfOk result (λ xs. links_nesting (link_list xs) ≤ depth) }
 {
@@ -113,7 +113,7 @@ fn link(
     depth: u32,
     level: Level,
     operator: BinaryOperator,
-) -> Result<Link, ParseFault>
+) -> Result<Link, Stop>
     requires { level_of operator ≡ level }
     ensures spelled { IfOk result (λ x. link level x cursor.old.left.now ≡ Some cursor.new.left.now) }
     ensures nested { IfOk result (λ x. link_nesting x ≤ depth) }
@@ -129,7 +129,7 @@ fn link(
 
 /// An operand with operators in front of it.
 #[cycle(expr)]
-fn unary(cursor: &mut Cursor, depth: u32) -> Result<Expr, ParseFault>
+fn unary(cursor: &mut Cursor, depth: u32) -> Result<Expr, Stop>
     ensures spelled { IfOk result (λ e. expr e cursor.old.left.now ≡ Some cursor.new.left.now) }
     ensures nested { IfOk result (λ e. nesting e ≤ depth) }
     ensures rank { IfOk result (λ e. rank e ≤ 2) }
@@ -144,13 +144,13 @@ fn unary(cursor: &mut Cursor, depth: u32) -> Result<Expr, ParseFault>
 }
 
 #[cycle(expr)]
-fn signed(cursor: &mut Cursor, depth: u32, operator: UnaryOperator) -> Result<Expr, ParseFault>
+fn signed(cursor: &mut Cursor, depth: u32, operator: UnaryOperator) -> Result<Expr, Stop>
     ensures spelled { IfOk result (λ e. expr e cursor.old.left.now ≡ Some cursor.new.left.now) }
     ensures nested { IfOk result (λ e. nesting e ≤ depth) }
     ensures rank { IfOk result (λ e. rank e ≤ 2) }
 {
     if depth == 0 {
-        return Err(ParseFault::Depth(cursor.place()));
+        return Err(Stop::Depth(cursor.place()));
     }
     let place = cursor.mark(Side::Real, operator.mark())?;
     let operand = Box::new(cursor.alloc, unary(cursor, depth - 1)?)?;
@@ -171,13 +171,13 @@ fn sees_cast(cursor: &Cursor) -> bool {
 }
 
 #[cycle(expr)]
-fn cast(cursor: &mut Cursor, depth: u32) -> Result<Expr, ParseFault>
+fn cast(cursor: &mut Cursor, depth: u32) -> Result<Expr, Stop>
     ensures spelled { IfOk result (λ e. expr e cursor.old.left.now ≡ Some cursor.new.left.now) }
     ensures nested { IfOk result (λ e. nesting e ≤ depth) }
     ensures rank { IfOk result (λ e. rank e ≤ 2) }
 {
     if depth == 0 {
-        return Err(ParseFault::Depth(cursor.place()));
+        return Err(Stop::Depth(cursor.place()));
     }
     let place = cursor.mark(Side::Real, Punctuator::OpenParenthesis)?;
     let target = cursor.ctype(Side::Real)?;
@@ -192,7 +192,7 @@ fn cast(cursor: &mut Cursor, depth: u32) -> Result<Expr, ParseFault>
 /// A primary expression with what stands behind it.
 #[cycle(expr)]
 #[tactic(auto, using(crate::proofs::Lists::some_parts))]
-pub fn post(cursor: &mut Cursor, depth: u32) -> Result<Expr, ParseFault>
+pub fn post(cursor: &mut Cursor, depth: u32) -> Result<Expr, Stop>
     ensures spelled { IfOk result (λ e. expr e cursor.old.left.now ≡ Some cursor.new.left.now) }
     ensures nested { IfOk result (λ e. nesting e ≤ depth) }
     ensures rank { IfOk result (λ e. rank e ≤ 1) }
@@ -219,7 +219,7 @@ fn sees_postfix(cursor: &Cursor) -> bool {
 
 #[cycle(expr)]
 #[tactic(auto, using(crate::proofs::Lists::postfixes_push, crate::proofs::Lists::postfix_nesting_push))]
-fn postfixes(cursor: &mut Cursor, depth: u32) -> Result<PostfixList, ParseFault>
+fn postfixes(cursor: &mut Cursor, depth: u32) -> Result<PostfixList, Stop>
     ensures spelled { IfOk result (λ xs. postfixes (postfix_list xs) cursor.old.left.now ≡ Some cursor.new.left.now) }
     ensures nested { IfOk result (λ xs. postfix_nesting (postfix_list xs) ≤ depth) }
 {
@@ -236,7 +236,7 @@ fn postfixes(cursor: &mut Cursor, depth: u32) -> Result<PostfixList, ParseFault>
 }
 
 #[cycle(expr)]
-fn postfix(cursor: &mut Cursor, depth: u32) -> Result<Postfix, ParseFault>
+fn postfix(cursor: &mut Cursor, depth: u32) -> Result<Postfix, Stop>
     ensures spelled { IfOk result (λ x. postfix x cursor.old.left.now ≡ Some cursor.new.left.now) }
     ensures nested { IfOk result (λ x. part_nesting x ≤ depth) }
 {
@@ -268,7 +268,7 @@ fn postfix(cursor: &mut Cursor, depth: u32) -> Result<Postfix, ParseFault>
 
 /// The arguments in front of a `)`.
 #[cycle(expr)]
-fn arguments(cursor: &mut Cursor, depth: u32) -> Result<ExprList, ParseFault>
+fn arguments(cursor: &mut Cursor, depth: u32) -> Result<ExprList, Stop>
     ensures spelled { IfOk result (λ xs. arguments (expr_list xs) cursor.old.left.now ≡ Some cursor.new.left.now) }
     ensures nested { IfOk result (λ xs. arguments_nesting (expr_list xs) ≤ depth) }
 {
@@ -280,7 +280,7 @@ fn arguments(cursor: &mut Cursor, depth: u32) -> Result<ExprList, ParseFault>
 
 #[cycle(expr)]
 #[tactic(auto, using(crate::proofs::Lists::arguments_push, crate::proofs::Lists::arguments_nesting_push, crate::proofs::Lists::some_pushed))]
-fn some_arguments(cursor: &mut Cursor, depth: u32) -> Result<ExprList, ParseFault>
+fn some_arguments(cursor: &mut Cursor, depth: u32) -> Result<ExprList, Stop>
     ensures spelled { IfOk result (λ xs. arguments (expr_list xs) cursor.old.left.now ≡ Some cursor.new.left.now) }
     ensures nested { IfOk result (λ xs. arguments_nesting (expr_list xs) ≤ depth) }
 {
@@ -300,7 +300,7 @@ fn some_arguments(cursor: &mut Cursor, depth: u32) -> Result<ExprList, ParseFaul
 
 /// An argument behind a comma.
 #[cycle(expr)]
-fn next_argument(cursor: &mut Cursor, depth: u32) -> Result<Expr, ParseFault>
+fn next_argument(cursor: &mut Cursor, depth: u32) -> Result<Expr, Stop>
     ensures spelled { IfOk result (λ x. more_arguments (expr_list (x ∷ [])) cursor.old.left.now ≡ Some cursor.new.left.now) }
     ensures nested { IfOk result (λ x. nesting x + 1 ≤ depth) }
 {
@@ -309,7 +309,7 @@ fn next_argument(cursor: &mut Cursor, depth: u32) -> Result<Expr, ParseFault>
 }
 
 #[cycle(expr)]
-fn primary(cursor: &mut Cursor, depth: u32) -> Result<Expr, ParseFault>
+fn primary(cursor: &mut Cursor, depth: u32) -> Result<Expr, Stop>
     ensures spelled { IfOk result (λ e. expr e cursor.old.left.now ≡ Some cursor.new.left.now) }
     ensures nested { IfOk result (λ e. nesting e ≤ depth) }
     ensures rank { IfOk result (λ e. rank e ≤ 0) }
@@ -324,7 +324,7 @@ fn primary(cursor: &mut Cursor, depth: u32) -> Result<Expr, ParseFault>
 }
 
 /// A primary expression of one token.
-fn constant(cursor: &mut Cursor) -> Result<Expr, ParseFault>
+fn constant(cursor: &mut Cursor) -> Result<Expr, Stop>
     ensures spelled { IfOk result (λ e. expr e cursor.old.left.now ≡ Some cursor.new.left.now) }
     ensures nested { IfOk result (λ e. nesting e ≤ 0) }
     ensures rank { IfOk result (λ e. rank e ≤ 0) }
@@ -354,7 +354,7 @@ fn constant(cursor: &mut Cursor) -> Result<Expr, ParseFault>
 }
 
 #[cycle(expr)]
-fn parenthesized(cursor: &mut Cursor, depth: u32) -> Result<Expr, ParseFault>
+fn parenthesized(cursor: &mut Cursor, depth: u32) -> Result<Expr, Stop>
     ensures spelled { IfOk result (λ e. expr e cursor.old.left.now ≡ Some cursor.new.left.now) }
     ensures nested { IfOk result (λ e. nesting e ≤ depth) }
     ensures rank { IfOk result (λ e. rank e ≤ 0) }
@@ -369,7 +369,7 @@ fn parenthesized(cursor: &mut Cursor, depth: u32) -> Result<Expr, ParseFault>
 }
 
 #[cycle(expr)]
-fn malloc(cursor: &mut Cursor, depth: u32) -> Result<Expr, ParseFault>
+fn malloc(cursor: &mut Cursor, depth: u32) -> Result<Expr, Stop>
     ensures spelled { IfOk result (λ e. expr e cursor.old.left.now ≡ Some cursor.new.left.now) }
     ensures nested { IfOk result (λ e. nesting e ≤ depth) }
     ensures rank { IfOk result (λ e. rank e ≤ 0) }
@@ -381,7 +381,7 @@ fn malloc(cursor: &mut Cursor, depth: u32) -> Result<Expr, ParseFault>
     }
 }
 
-fn malloc_struct(cursor: &mut Cursor) -> Result<Expr, ParseFault>
+fn malloc_struct(cursor: &mut Cursor) -> Result<Expr, Stop>
     ensures spelled { IfOk result (λ e. expr e cursor.old.left.now ≡ Some cursor.new.left.now) }
     ensures nested { IfOk result (λ e. nesting e ≤ 0) }
     ensures rank { IfOk result (λ e. rank e ≤ 0) }
@@ -401,13 +401,13 @@ fn malloc_struct(cursor: &mut Cursor) -> Result<Expr, ParseFault>
 }
 
 #[cycle(expr)]
-fn malloc_ints(cursor: &mut Cursor, depth: u32) -> Result<Expr, ParseFault>
+fn malloc_ints(cursor: &mut Cursor, depth: u32) -> Result<Expr, Stop>
     ensures spelled { IfOk result (λ e. expr e cursor.old.left.now ≡ Some cursor.new.left.now) }
     ensures nested { IfOk result (λ e. nesting e ≤ depth) }
     ensures rank { IfOk result (λ e. rank e ≤ 0) }
 {
     if depth == 0 {
-        return Err(ParseFault::Depth(cursor.place()));
+        return Err(Stop::Depth(cursor.place()));
     }
     let place = cursor.word(Side::Real, Keyword::Malloc)?;
     cursor.mark(Side::Real, Punctuator::OpenParenthesis)?;
