@@ -332,7 +332,7 @@ def tree_file(cycle):
                 if k.startswith('list:'):
                     size.append(f'{base(child_of(k))}_nodes_all {x}')
             s += f'  {b}_nodes ({constructor(t, v)} p{"".join(" " + x for x in ps)}) = ' + ' + '.join(size + ['1']) + '\n'
-        s += f'\n  pub {b}_nodes_all : {t[0]}Trees → ℕ\n  {b}_nodes_all no_{b} = 0\n  {b}_nodes_all (more_{b} x xs) = {b}_nodes x + {b}_nodes_all xs + 1\n\n'
+        s += f'\n  -- how many nodes a list of these has\n  pub {b}_nodes_all : {t[0]}Trees → ℕ\n  {b}_nodes_all no_{b} = 0\n  {b}_nodes_all (more_{b} x xs) = {b}_nodes x + {b}_nodes_all xs + 1\n\n'
     for t in types:
         b = base(t[0])
         s += (f'-- each item of a list has fewer nodes than the list\npub most_le-{b}_nodes_all : (xs : List {t[0]}Tree) → most (λ x. {b}_nodes x + 1) xs ≤ {b}_nodes_all ({b}_list xs)\n'
@@ -363,18 +363,18 @@ def codes_file(cycle):
     s += f'use {SPECS}.{stem}Tree.{{{", ".join(names)}}}\nuse {SPECS}.{stem}Tree as tree\nuse {SPECS}.Stores.{{head, tail, tag}}\n\nabbrev mutual\n'
     for t in types:
         b = base(t[0])
-        s += f'  pub {b}_code : {t[0]}Tree → Gv\n'
+        s += f'  -- how it is stored\n  pub {b}_code : {t[0]}Tree → Gv\n'
         for n, v in enumerate(t[2]):
             ps = params(v)
             e = 'gnil'
             for x, k in reversed(list(zip('p' + ps, ['own:Place'] + [k for _, k in v[2]]))):
                 e = f'(gcons {code(k, x)} {e})'
             s += f'  {b}_code (tree.{constructor(t, v)} p{"".join(" " + x for x in ps)}) = gcons (gnum {n}) {e}\n'
-        s += f'\n  pub {b}_codes : {t[0]}Trees → Gv\n  {b}_codes no_{b} = gnil\n  {b}_codes (more_{b} x xs) = gcons ({b}_code x) ({b}_codes xs)\n\n'
+        s += f'\n  -- how a list of these is stored\n  pub {b}_codes : {t[0]}Trees → Gv\n  {b}_codes no_{b} = gnil\n  {b}_codes (more_{b} x xs) = gcons ({b}_code x) ({b}_codes xs)\n\n'
     s += 'mutual\n'
     for t in types:
         b = base(t[0])
-        s += f'  pub {b}_inj : (x y : {t[0]}Tree) → {b}_code x ≡ {b}_code y → x ≡ y\n'
+        s += f'  -- what is stored alike is the same\n  pub {b}_inj : (x y : {t[0]}Tree) → {b}_code x ≡ {b}_code y → x ≡ y\n'
         for v in t[2]:
             ps = params(v)
             parts = []
@@ -387,13 +387,13 @@ def codes_file(cycle):
             s += f'  {b}_inj (tree.{constructor(t, v)}{a}) (tree.{constructor(t, v)}{c}) e = λ i. tree.{constructor(t, v)} ' + ' '.join(parts) + '\n'
         if len(t[2]) > 1:
             s += f'  {b}_inj x y e = absurd (omega (arith, ap tag e))\n'
-        s += (f'\n  pub {b}_injs : (x y : {t[0]}Trees) → {b}_codes x ≡ {b}_codes y → x ≡ y\n'
+        s += (f'\n  -- lists that are stored alike are the same\n  pub {b}_injs : (x y : {t[0]}Trees) → {b}_codes x ≡ {b}_codes y → x ≡ y\n'
               f'  {b}_injs (more_{b} x xs) (more_{b} y ys) e = λ i. more_{b} ({b}_inj x y (ap head e) i) ({b}_injs xs ys (ap tail e) i)\n'
               f'  {b}_injs no_{b} no_{b} e = refl\n  {b}_injs x y e = cc\n\n')
     for t in types:
         b = base(t[0])
-        s += f'abbrev pub coded_{b} : Coded {t[0]}Tree\ncoded_{b} = record {{ code = {b}_code; inj = {b}_inj }}\n\n'
-        s += f'abbrev pub coded_{b}_list : Coded (List {t[0]}Tree)\ncoded_{b}_list = coded_list coded_{b}\n\n'
+        s += f'-- its code\nabbrev pub coded_{b} : Coded {t[0]}Tree\ncoded_{b} = record {{ code = {b}_code; inj = {b}_inj }}\n\n'
+        s += f'-- the code of lists of these\nabbrev pub coded_{b}_list : Coded (List {t[0]}Tree)\ncoded_{b}_list = coded_list coded_{b}\n\n'
     return s
 
 

@@ -42,7 +42,7 @@ more_arguments_push : (xs : List ExprTree) (x : ExprTree) (ts mid rest : List To
 more_arguments_push [] x ts mid rest e f = let q : more_arguments (expr_list (x ∷ [])) ts ≡ Some rest = cc in q
 more_arguments_push (y ∷ xs) x ts mid rest e f =
     behind (mark Real punctuators.Comma ts) (expr y ⨾ more_arguments (expr_list xs)) (expr y ⨾ more_arguments (expr_list (xs ++ x ∷ []))) mid rest e
-      (λ m h. behind (expr y m) (more_arguments (expr_list xs)) (more_arguments (expr_list (xs ++ x ∷ []))) mid rest h (λ n i. more_arguments_push xs x n mid rest i f))
+    (λ m h. behind (expr y m) (more_arguments (expr_list xs)) (more_arguments (expr_list (xs ++ x ∷ []))) mid rest h (λ n i. more_arguments_push xs x n mid rest i f))
 
 pub arguments_push : (xs : List ExprTree) (x : ExprTree) (ts mid rest : List Token) → 1 ≤ length xs → arguments (expr_list xs) ts ≡ Some mid → more_arguments (expr_list (x ∷ [])) mid ≡ Some rest → arguments (expr_list (xs ++ x ∷ [])) ts ≡ Some rest
 arguments_push [] x ts mid rest n e f = absurd (omega arith)

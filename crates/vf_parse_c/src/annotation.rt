@@ -13,7 +13,11 @@ use vf_syntax::keyword::Keyword;
 use vf_syntax::side::{Grammar, Side};
 
 /// The invariant of a loop.
-pub fn owed_invariant(cursor: &mut Cursor, depth: u32, grammar: Grammar) -> Result<Option<Invariant>, Stop>
+pub fn owed_invariant(
+    cursor: &mut Cursor,
+    depth: u32,
+    grammar: Grammar,
+) -> Result<Option<Invariant>, Stop>
     ensures spelled { IfOk result (λ i. owed grammar invariant_walk i cursor.old.left.now ≡ Some cursor.new.left.now) }
     ensures nested { IfOk result (λ i. or_none invariant_nesting i ≤ depth) }
 {
@@ -27,7 +31,11 @@ pub fn owed_invariant(cursor: &mut Cursor, depth: u32, grammar: Grammar) -> Resu
 }
 
 /// The contract of a function without a body.
-pub fn owed_contract(cursor: &mut Cursor, depth: u32, grammar: Grammar) -> Result<Option<Contract>, Stop>
+pub fn owed_contract(
+    cursor: &mut Cursor,
+    depth: u32,
+    grammar: Grammar,
+) -> Result<Option<Contract>, Stop>
     ensures spelled { IfOk result (λ c. owed grammar contract c cursor.old.left.now ≡ Some cursor.new.left.now) }
     ensures nested { IfOk result (λ c. or_none contract_nesting c ≤ depth) }
 {
@@ -41,7 +49,11 @@ pub fn owed_contract(cursor: &mut Cursor, depth: u32, grammar: Grammar) -> Resul
 }
 
 /// The contract of a function with a body, if it has one.
-pub fn allowed_contract(cursor: &mut Cursor, depth: u32, grammar: Grammar) -> Result<Option<Contract>, Stop>
+pub fn allowed_contract(
+    cursor: &mut Cursor,
+    depth: u32,
+    grammar: Grammar,
+) -> Result<Option<Contract>, Stop>
     ensures spelled { IfOk result (λ c. allowed grammar contract c cursor.old.left.now ≡ Some cursor.new.left.now) }
     ensures nested { IfOk result (λ c. or_none contract_nesting c ≤ depth) }
 {

@@ -8,7 +8,9 @@ ghost use Rattle.vf_syntax.specs.Expressions.{is_operand, rank, expr, link, link
 use vf_cursor::cursor::Cursor;
 use vf_cursor::fault::Stop;
 use vf_lexer::Punctuator;
-use vf_syntax::expr::{Expr, ExprList, ExprNode, Link, LinkList, Postfix, PostfixList, PostfixNode};
+use vf_syntax::expr::{
+    Expr, ExprList, ExprNode, Link, LinkList, Postfix, PostfixList, PostfixNode,
+};
 use vf_syntax::keyword::Keyword;
 use vf_syntax::operator::{BinaryOperator, Level, UnaryOperator};
 use vf_syntax::side::Side;
@@ -165,7 +167,9 @@ fn sees_cast(cursor: &Cursor) -> bool {
     let inner = cursor.ahead(1);
     let is_pointer = inner.sees_name(Side::Real)
         && cursor.ahead(2).sees_mark(Side::Real, Punctuator::Star)
-        && cursor.ahead(3).sees_mark(Side::Real, Punctuator::CloseParenthesis);
+        && cursor
+            .ahead(3)
+            .sees_mark(Side::Real, Punctuator::CloseParenthesis);
     cursor.sees_mark(Side::Real, Punctuator::OpenParenthesis)
         && (is_pointer || inner.sees_type_word(Side::Real))
 }

@@ -10,7 +10,9 @@ ghost use Rattle.vf_syntax.specs.Statements.{stmt, stmts, stmt_nesting, stmts_ne
 
 use crate::annotation::owed_invariant;
 use crate::expr::expr;
-use crate::simple::{optional_expr, optional_first, optional_initializer, optional_simple, sees_type, simple};
+use crate::simple::{
+    optional_expr, optional_first, optional_initializer, optional_simple, sees_type, simple,
+};
 use vf_cursor::cursor::Cursor;
 use vf_cursor::fault::Stop;
 use vf_lexer::Punctuator;

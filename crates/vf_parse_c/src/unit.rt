@@ -5,8 +5,10 @@ ghost use Rattle.vf_syntax.specs.Lists.{each, greatest};
 ghost use Rattle.vf_syntax.specs.declared.side.Grammar.TheVariants as grammars;
 ghost use Rattle.vf_syntax.specs.Units.{item, item_nesting, unit, unit_nesting, Spells};
 ghost use Rattle.vf_parse_c.specs.Unsupported.{first_unsupported, Unsupports};
+ghost use Rattle.vf_parse_c.specs.Plain.{real_tokens};
 
 use crate::item::item;
+use crate::plain::real_tokens;
 use crate::unsupported::first_unsupported;
 use std::alloc::Global;
 use vf_base::{NumberList, Place, Sequence};
@@ -72,6 +74,39 @@ pub fn parse(
         end,
     };
     match unit(&mut cursor, headers, Grammar::Whole) {
+        Ok(unit) => Ok(unit),
+        Err(Stop::Syntax(place)) => Err(ParseFault::Syntax(place)),
+        Err(Stop::Depth(place)) => Err(ParseFault::Depth(place)),
+        Err(Stop::Memory) => Err(ParseFault::Memory),
+    }
+}
+
+/// The tree that the real tokens of a unit spell, as a C compiler reads them: by the grammar without annotations.
+///
+/// `headers` and `end` are as for [`parse`].
+pub fn parse_plain(
+    alloc: Global,
+    tokens: &[Token],
+    headers: NumberList,
+    end: Place,
+) -> Result<Unit, ParseFault>
+    ensures spelled { IfOk result (λ u. Spells grammars.Plain 128 u (real_tokens tokens.now)) }
+    ensures headers { IfOk result (λ u. u.headers ≡ headers) }
+    ensures unsupported { Unsupports (first_unsupported tokens.now) result }
+{
+    if let Some(place) = first_unsupported(tokens) {
+        return Err(ParseFault::Unsupported(place));
+    }
+    let real = match real_tokens(alloc, tokens) {
+        Ok(real) => real,
+        Err(_) => return Err(ParseFault::Memory),
+    };
+    let mut cursor = Cursor {
+        alloc,
+        left: real.as_slice(),
+        end,
+    };
+    match unit(&mut cursor, headers, Grammar::Plain) {
         Ok(unit) => Ok(unit),
         Err(Stop::Syntax(place)) => Err(ParseFault::Syntax(place)),
         Err(Stop::Depth(place)) => Err(ParseFault::Depth(place)),

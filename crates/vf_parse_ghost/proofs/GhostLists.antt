@@ -26,7 +26,7 @@ more_arguments_push : (xs : List GhostExprTree) (x : GhostExprTree) (ts mid rest
 more_arguments_push [] x ts mid rest e f = let q : more_ghost_arguments (ghost_expr_list (x ∷ [])) ts ≡ Some rest = cc in q
 more_arguments_push (y ∷ xs) x ts mid rest e f =
     behind (mark Ghost punctuators.Comma ts) (ghost_expr y ⨾ more_ghost_arguments (ghost_expr_list xs)) (ghost_expr y ⨾ more_ghost_arguments (ghost_expr_list (xs ++ x ∷ []))) mid rest e
-      (λ m h. behind (ghost_expr y m) (more_ghost_arguments (ghost_expr_list xs)) (more_ghost_arguments (ghost_expr_list (xs ++ x ∷ []))) mid rest h (λ n i. more_arguments_push xs x n mid rest i f))
+    (λ m h. behind (ghost_expr y m) (more_ghost_arguments (ghost_expr_list xs)) (more_ghost_arguments (ghost_expr_list (xs ++ x ∷ []))) mid rest h (λ n i. more_arguments_push xs x n mid rest i f))
 
 pub arguments_push : (xs : List GhostExprTree) (x : GhostExprTree) (ts mid rest : List Token) → 1 ≤ length xs → ghost_arguments (ghost_expr_list xs) ts ≡ Some mid → more_ghost_arguments (ghost_expr_list (x ∷ [])) mid ≡ Some rest → ghost_arguments (ghost_expr_list (xs ++ x ∷ [])) ts ≡ Some rest
 arguments_push [] x ts mid rest n e f = absurd (omega arith)

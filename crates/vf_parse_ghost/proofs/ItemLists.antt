@@ -17,7 +17,7 @@ more_parameters_push : (xs : List GhostParameter) (x : GhostParameter) (ts mid r
 more_parameters_push [] x ts mid rest e f = let q : more_ghost_parameters (x ∷ []) ts ≡ Some rest = cc in q
 more_parameters_push (y ∷ xs) x ts mid rest e f =
     behind (mark Ghost (if y.after_semicolon then punctuators.Semicolon else punctuators.Comma) ts) (ghost_parameter y ⨾ more_ghost_parameters xs) (ghost_parameter y ⨾ more_ghost_parameters (xs ++ x ∷ [])) mid rest e
-      (λ m h. behind (ghost_parameter y m) (more_ghost_parameters xs) (more_ghost_parameters (xs ++ x ∷ [])) mid rest h (λ n i. more_parameters_push xs x n mid rest i f))
+    (λ m h. behind (ghost_parameter y m) (more_ghost_parameters xs) (more_ghost_parameters (xs ++ x ∷ [])) mid rest h (λ n i. more_parameters_push xs x n mid rest i f))
 
 pub parameters_push : (xs : List GhostParameter) (x : GhostParameter) (ts mid rest : List Token) → 1 ≤ length xs → ghost_parameters_inside xs ts ≡ Some mid → more_ghost_parameters (x ∷ []) mid ≡ Some rest → ghost_parameters_inside (xs ++ x ∷ []) ts ≡ Some rest
 parameters_push [] x ts mid rest n e f = absurd (omega arith)

@@ -47,13 +47,13 @@ more_parts_push : (xs : List PartTree) (x : PartTree) (ts mid rest : List Token)
 more_parts_push [] x ts mid rest e f = let q : more_parts (part_list (x ∷ [])) ts ≡ Some rest = cc in q
 more_parts_push (y ∷ xs) x ts mid rest e f =
     behind (mark Ghost punctuators.SeparatingAnd ts) (part y ⨾ more_parts (part_list xs)) (part y ⨾ more_parts (part_list (xs ++ x ∷ []))) mid rest e
-      (λ m h. behind (part y m) (more_parts (part_list xs)) (more_parts (part_list (xs ++ x ∷ []))) mid rest h (λ n i. more_parts_push xs x n mid rest i f))
+    (λ m h. behind (part y m) (more_parts (part_list xs)) (more_parts (part_list (xs ++ x ∷ []))) mid rest h (λ n i. more_parts_push xs x n mid rest i f))
 
 pub parts_push : (xs : List PartTree) (x : PartTree) (ts mid rest : List Token) → 1 ≤ length xs → has_no_conditional (part_list xs) ≡ true → assertion (part_list xs) ts ≡ Some mid → more_parts (part_list (x ∷ [])) mid ≡ Some rest → assertion (part_list (xs ++ x ∷ [])) ts ≡ Some rest
 parts_push [] x ts mid rest n h e f = absurd (omega arith)
 parts_push (y ∷ xs) x ts mid rest n h e f =
     rw (none_last (y ∷ xs) x h) (behind (part y ts) (more_parts (part_list xs)) (more_parts (part_list (xs ++ x ∷ []))) mid rest
-      (passed (is_conditional_last (part_list (y ∷ xs))) (part y ⨾ more_parts (part_list xs)) ts mid e) (λ m k. more_parts_push xs x m mid rest k f))
+    (passed (is_conditional_last (part_list (y ∷ xs))) (part y ⨾ more_parts (part_list xs)) ts mid e) (λ m k. more_parts_push xs x m mid rest k f))
 
 pub parts_nesting_push : (xs : List PartTree) (x : PartTree) (d : ℕ) → parts_nesting (part_list xs) ≤ d → part_nesting x ≤ d → parts_nesting (part_list (xs ++ x ∷ [])) ≤ d
 parts_nesting_push [] x d e f = omega arith

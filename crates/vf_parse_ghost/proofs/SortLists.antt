@@ -13,7 +13,7 @@ more_sorts_push : (xs : List SortTree) (x : SortTree) (ts mid rest : List Token)
 more_sorts_push [] x ts mid rest e f = let q : more_sorts (sort_list (x ∷ [])) ts ≡ Some rest = cc in q
 more_sorts_push (y ∷ xs) x ts mid rest e f =
     behind (mark Ghost punctuators.Comma ts) (sort y ⨾ more_sorts (sort_list xs)) (sort y ⨾ more_sorts (sort_list (xs ++ x ∷ []))) mid rest e
-      (λ m h. behind (sort y m) (more_sorts (sort_list xs)) (more_sorts (sort_list (xs ++ x ∷ []))) mid rest h (λ n i. more_sorts_push xs x n mid rest i f))
+    (λ m h. behind (sort y m) (more_sorts (sort_list xs)) (more_sorts (sort_list (xs ++ x ∷ []))) mid rest h (λ n i. more_sorts_push xs x n mid rest i f))
 
 pub sorts_push : (xs : List SortTree) (x : SortTree) (ts mid rest : List Token) → 1 ≤ length xs → sorts_separated (sort_list xs) ts ≡ Some mid → more_sorts (sort_list (x ∷ [])) mid ≡ Some rest → sorts_separated (sort_list (xs ++ x ∷ [])) ts ≡ Some rest
 sorts_push [] x ts mid rest n e f = absurd (omega arith)

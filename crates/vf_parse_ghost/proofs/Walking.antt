@@ -31,7 +31,7 @@ behind_commas_push s w [] x ts mid rest e f =
     behind (mark s Comma ts) (w x) (w x ⨾ nothing) rest rest q (λ m h. rw h refl)
 behind_commas_push s w (y ∷ xs) x ts mid rest e f =
     behind (mark s Comma ts) (w y ⨾ behind_commas s w xs) (w y ⨾ behind_commas s w (xs ++ x ∷ [])) mid rest e
-      (λ m h. behind (w y m) (behind_commas s w xs) (behind_commas s w (xs ++ x ∷ [])) mid rest h (λ n i. behind_commas_push s w xs x n mid rest i f))
+    (λ m h. behind (w y m) (behind_commas s w xs) (behind_commas s w (xs ++ x ∷ [])) mid rest h (λ n i. behind_commas_push s w xs x n mid rest i f))
 
 pub separated_push : {A : Type 0} (s : Side) (w : A → Walk) (xs : List A) (x : A) (ts mid rest : List Token) → 1 ≤ length xs → separated s w xs ts ≡ Some mid → (mark s Comma ⨾ w x) mid ≡ Some rest → separated s w (xs ++ x ∷ []) ts ≡ Some rest
 separated_push s w [] x ts mid rest n e f = absurd (omega arith)

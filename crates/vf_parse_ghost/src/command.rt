@@ -11,7 +11,9 @@ use crate::sort::{sees_sort_word, sort};
 use vf_cursor::cursor::Cursor;
 use vf_cursor::fault::Stop;
 use vf_lexer::Punctuator;
-use vf_syntax::ghost_command::{CommandCase, CommandCaseList, GhostCommand, GhostCommandList, GhostCommandNode};
+use vf_syntax::ghost_command::{
+    CommandCase, CommandCaseList, GhostCommand, GhostCommandList, GhostCommandNode,
+};
 use vf_syntax::keyword::Keyword;
 use vf_syntax::side::Side;
 

@@ -196,7 +196,9 @@ fn primary(cursor: &mut Cursor, depth: u32) -> Result<GhostExpr, Stop>
         return parenthesized(cursor, depth);
     }
     if cursor.sees_name(Side::Ghost)
-        && cursor.ahead(1).sees_mark(Side::Ghost, Punctuator::OpenParenthesis)
+        && cursor
+            .ahead(1)
+            .sees_mark(Side::Ghost, Punctuator::OpenParenthesis)
     {
         return application(cursor, depth);
     }

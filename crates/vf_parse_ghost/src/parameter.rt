@@ -63,7 +63,11 @@ fn next_separator(cursor: &Cursor) -> Option<bool> {
 }
 
 /// A parameter behind another.
-fn next_parameter(cursor: &mut Cursor, depth: u32, after_semicolon: bool) -> Result<GhostParameter, Stop>
+fn next_parameter(
+    cursor: &mut Cursor,
+    depth: u32,
+    after_semicolon: bool,
+) -> Result<GhostParameter, Stop>
     ensures spelled { IfOk result (λ x. more_ghost_parameters (x ∷ []) cursor.old.left.now ≡ Some cursor.new.left.now) }
     ensures nested { IfOk result (λ x. ghost_parameter_nesting x ≤ depth) }
 {
@@ -195,7 +199,10 @@ fn arguments(cursor: &mut Cursor, depth: u32) -> Result<Sequence<ConstructorArgu
     Ok(arguments)
 }
 
-fn optional_arguments(cursor: &mut Cursor, depth: u32) -> Result<Option<Sequence<ConstructorArgument>>, Stop>
+fn optional_arguments(
+    cursor: &mut Cursor,
+    depth: u32,
+) -> Result<Option<Sequence<ConstructorArgument>>, Stop>
     ensures spelled { IfOk result (λ xs. optional constructor_arguments xs cursor.old.left.now ≡ Some cursor.new.left.now) }
     ensures nested { IfOk result (λ xs. or_none (greatest constructor_argument_nesting) xs ≤ depth) }
 {

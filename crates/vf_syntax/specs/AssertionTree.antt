@@ -56,6 +56,7 @@ abbrev mutual
   part_nodes (pure p a) = 1
   part_nodes (group p a) = part_nodes_all a + 1
 
+  -- how many nodes a list of these has
   pub part_nodes_all : PartTrees → ℕ
   part_nodes_all no_part = 0
   part_nodes_all (more_part x xs) = part_nodes x + part_nodes_all xs + 1
@@ -64,6 +65,7 @@ abbrev mutual
   pub assertion_case_nodes : AssertionCaseTree → ℕ
   assertion_case_nodes (assertion_case p a b) = part_nodes_all b + 1
 
+  -- how many nodes a list of these has
   pub assertion_case_nodes_all : AssertionCaseTrees → ℕ
   assertion_case_nodes_all no_assertion_case = 0
   assertion_case_nodes_all (more_assertion_case x xs) = assertion_case_nodes x + assertion_case_nodes_all xs + 1

@@ -61,6 +61,7 @@ abbrev pub is_value_pattern : Pattern → Bool
 is_value_pattern (patterns.Is e) = true
 is_value_pattern p = false
 
+-- all patterns are expressions
 abbrev pub are_value_patterns : List Pattern → Bool
 are_value_patterns [] = true
 are_value_patterns (x ∷ xs) = is_value_pattern x && are_value_patterns xs
@@ -86,6 +87,7 @@ abbrev pub is_expression : PartTrees → Bool
 is_expression (more_part x no_part) = is_content x
 is_expression xs = false
 
+-- a part is a conditional
 abbrev pub is_conditional : PartTree → Bool
 is_conditional (tree.conditional p c a b) = true
 is_conditional x = false
@@ -95,6 +97,7 @@ abbrev pub has_no_conditional : PartTrees → Bool
 has_no_conditional no_part = true
 has_no_conditional (more_part x xs) = not (is_conditional x) && has_no_conditional xs
 
+-- there is no part
 abbrev pub is_empty : PartTrees → Bool
 is_empty no_part = true
 is_empty (more_part x xs) = false
@@ -130,6 +133,7 @@ abbrev mutual
   pub assertion_case : AssertionCaseTree → Walk
   assertion_case (tree.assertion_case p c a) = at p ⨾ word Ghost keywords.Case ⨾ case_pattern c ⨾ mark Ghost punctuators.Colon ⨾ word Ghost keywords.Return ⨾ assertion a ⨾ mark Ghost punctuators.Semicolon
 
+  -- cases, one after another
   pub assertion_cases : AssertionCaseTrees → Walk
   assertion_cases no_assertion_case = nothing
   assertion_cases (more_assertion_case x xs) = assertion_case x ⨾ assertion_cases xs
@@ -155,9 +159,11 @@ abbrev mutual
   parts_nesting no_part = 0
   parts_nesting (more_part x xs) = max (part_nesting x) (parts_nesting xs)
 
+  -- how deep a case nests: its assertion counts one
   pub case_nesting : AssertionCaseTree → ℕ
   case_nesting (tree.assertion_case p c a) = parts_nesting a + 1
 
+  -- the deepest of some cases
   pub cases_nesting : AssertionCaseTrees → ℕ
   cases_nesting no_assertion_case = 0
   cases_nesting (more_assertion_case x xs) = max (case_nesting x) (cases_nesting xs)

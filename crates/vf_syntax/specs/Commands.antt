@@ -23,7 +23,7 @@ abbrev mutual
   command (tree.declaration p s n e) = at p ⨾ sort s ⨾ name Ghost n ⨾ mark Ghost punctuators.Becomes ⨾ ghost_expr e ⨾ mark Ghost punctuators.Semicolon
   command (tree.assignment p x e) = at p ⨾ identifier Ghost x ⨾ mark Ghost punctuators.Becomes ⨾ ghost_expr e ⨾ mark Ghost punctuators.Semicolon
   command (tree.call_ p f xs) = at p ⨾ identifier Ghost f ⨾ mark Ghost punctuators.OpenParenthesis ⨾ ghost_arguments (ghost_expr_list xs) ⨾ mark Ghost punctuators.CloseParenthesis ⨾ mark Ghost punctuators.Semicolon
-  command (tree.if_ p e xs) = at p ⨾ word Ghost keywords.If ⨾ mark Ghost punctuators.OpenParenthesis ⨾ ghost_expr e ⨾ mark Ghost punctuators.CloseParenthesis 
+  command (tree.if_ p e xs) = at p ⨾ word Ghost keywords.If ⨾ mark Ghost punctuators.OpenParenthesis ⨾ ghost_expr e ⨾ mark Ghost punctuators.CloseParenthesis
       ⨾ mark Ghost punctuators.OpenBrace ⨾ commands xs ⨾ mark Ghost punctuators.CloseBrace
   command (tree.if_else p e xs ys) = at p ⨾ word Ghost keywords.If ⨾ mark Ghost punctuators.OpenParenthesis ⨾ ghost_expr e ⨾ mark Ghost punctuators.CloseParenthesis
       ⨾ mark Ghost punctuators.OpenBrace ⨾ commands xs ⨾ mark Ghost punctuators.CloseBrace ⨾ word Ghost keywords.Else
@@ -32,6 +32,7 @@ abbrev mutual
       ⨾ mark Ghost punctuators.OpenBrace ⨾ command_cases cs ⨾ mark Ghost punctuators.CloseBrace
   command (tree.block p xs) = at p ⨾ mark Ghost punctuators.OpenBrace ⨾ commands xs ⨾ mark Ghost punctuators.CloseBrace
 
+  -- commands, one after another
   pub commands : GhostCommandTrees → Walk
   commands no_ghost_command = nothing
   commands (more_ghost_command x xs) = command x ⨾ commands xs
@@ -40,6 +41,7 @@ abbrev mutual
   pub command_case : CommandCaseTree → Walk
   command_case (tree.command_case p c xs) = at p ⨾ word Ghost keywords.Case ⨾ case_pattern c ⨾ mark Ghost punctuators.Colon ⨾ commands xs
 
+  -- cases, one after another
   pub command_cases : CommandCaseTrees → Walk
   command_cases no_command_case = nothing
   command_cases (more_command_case x xs) = command_case x ⨾ command_cases xs
@@ -59,13 +61,16 @@ abbrev mutual
   command_nesting (tree.switch_ p e cs) = max (ghost_nesting e + 1) (command_cases_nesting cs)
   command_nesting (tree.block p xs) = commands_nesting xs
 
+  -- the deepest of some commands, each of which counts one
   pub commands_nesting : GhostCommandTrees → ℕ
   commands_nesting no_ghost_command = 0
   commands_nesting (more_ghost_command x xs) = max (command_nesting x + 1) (commands_nesting xs)
 
+  -- how deep a case nests
   pub command_case_nesting : CommandCaseTree → ℕ
   command_case_nesting (tree.command_case p c xs) = commands_nesting xs
 
+  -- the deepest of some cases
   pub command_cases_nesting : CommandCaseTrees → ℕ
   command_cases_nesting no_command_case = 0
   command_cases_nesting (more_command_case x xs) = max (command_case_nesting x) (command_cases_nesting xs)

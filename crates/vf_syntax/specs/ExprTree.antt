@@ -85,6 +85,7 @@ abbrev mutual
   expr_nodes (chain p a b c) = expr_nodes b + link_nodes_all c + 1
   expr_nodes (conditional p a b c) = expr_nodes a + expr_nodes b + expr_nodes c + 1
 
+  -- how many nodes a list of these has
   pub expr_nodes_all : ExprTrees → ℕ
   expr_nodes_all no_expr = 0
   expr_nodes_all (more_expr x xs) = expr_nodes x + expr_nodes_all xs + 1
@@ -93,6 +94,7 @@ abbrev mutual
   pub link_nodes : LinkTree → ℕ
   link_nodes (link p a b) = expr_nodes b + 1
 
+  -- how many nodes a list of these has
   pub link_nodes_all : LinkTrees → ℕ
   link_nodes_all no_link = 0
   link_nodes_all (more_link x xs) = link_nodes x + link_nodes_all xs + 1
@@ -103,6 +105,7 @@ abbrev mutual
   postfix_nodes (index_ p a) = expr_nodes a + 1
   postfix_nodes (call_ p a) = expr_nodes_all a + 1
 
+  -- how many nodes a list of these has
   pub postfix_nodes_all : PostfixTrees → ℕ
   postfix_nodes_all no_postfix = 0
   postfix_nodes_all (more_postfix x xs) = postfix_nodes x + postfix_nodes_all xs + 1

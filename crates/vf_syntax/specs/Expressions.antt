@@ -31,6 +31,7 @@ abbrev pub has_links : LinkTrees → Bool
 has_links no_link = false
 has_links (more_link x xs) = true
 
+-- some part, or none
 abbrev pub has_parts : PostfixTrees → Bool
 has_parts no_postfix = false
 has_parts (more_postfix x xs) = true
@@ -62,6 +63,7 @@ abbrev mutual
   pub link : Level → LinkTree → Walk
   link l (tree.link p o a) = at p ⨾ provided (joins_on l (tree.link p o a)) ⨾ mark Real (binary_mark o) ⨾ expr a
 
+  -- links, one after another
   pub links : Level → LinkTrees → Walk
   links l no_link = nothing
   links l (more_link x xs) = link l x ⨾ links l xs
@@ -72,6 +74,7 @@ abbrev mutual
   postfix (tree.index_ p e) = at p ⨾ mark Real punctuators.OpenBracket ⨾ expr e ⨾ mark Real punctuators.CloseBracket
   postfix (tree.call_ p xs) = at p ⨾ mark Real punctuators.OpenParenthesis ⨾ arguments xs ⨾ mark Real punctuators.CloseParenthesis
 
+  -- parts behind an operand, one after another
   pub postfixes : PostfixTrees → Walk
   postfixes no_postfix = nothing
   postfixes (more_postfix x xs) = postfix x ⨾ postfixes xs
@@ -98,22 +101,27 @@ abbrev mutual
   nesting (tree.conditional p c a b) = max (nesting c) (max (nesting a + 1) (nesting b + 1))
   nesting e = 0
 
+  -- how deep the operand of a link nests
   pub link_nesting : LinkTree → ℕ
   link_nesting (tree.link p o a) = nesting a
 
+  -- the deepest of some links
   pub links_nesting : LinkTrees → ℕ
   links_nesting no_link = 0
   links_nesting (more_link x xs) = max (link_nesting x) (links_nesting xs)
 
+  -- how deep a part behind an operand nests: each expression in it counts one
   pub part_nesting : PostfixTree → ℕ
   part_nesting (tree.field_ p n) = 0
   part_nesting (tree.index_ p e) = nesting e + 1
   part_nesting (tree.call_ p es) = arguments_nesting es
 
+  -- the deepest of some parts
   pub postfix_nesting : PostfixTrees → ℕ
   postfix_nesting no_postfix = 0
   postfix_nesting (more_postfix x xs) = max (part_nesting x) (postfix_nesting xs)
 
+  -- the deepest of some arguments, each of which counts one
   pub arguments_nesting : ExprTrees → ℕ
   arguments_nesting no_expr = 0
   arguments_nesting (more_expr x xs) = max (nesting x + 1) (arguments_nesting xs)

@@ -16,6 +16,7 @@ use Rattle.vf_syntax.specs.GhostCommandTree as tree
 use Rattle.vf_syntax.specs.Stores.{head, tail, tag}
 
 abbrev mutual
+  -- how it is stored
   pub ghost_command_code : GhostCommandTree → Gv
   ghost_command_code (tree.open_ p a b c d) = gcons (gnum 0) (gcons (place_row.the_row.coded.code p) (gcons ((coded_option share_row.the_row.coded).code a) (gcons (name_row.the_row.coded.code b) (gcons ((coded_list pattern_row.the_row.coded).code c) (gcons ((coded_option (coded_list pattern_row.the_row.coded)).code d) gnil)))))
   ghost_command_code (tree.close_ p a b c d) = gcons (gnum 1) (gcons (place_row.the_row.coded.code p) (gcons ((coded_option share_row.the_row.coded).code a) (gcons (name_row.the_row.coded.code b) (gcons ((coded_list pattern_row.the_row.coded).code c) (gcons ((coded_option (coded_list pattern_row.the_row.coded)).code d) gnil)))))
@@ -29,18 +30,22 @@ abbrev mutual
   ghost_command_code (tree.switch_ p a b) = gcons (gnum 9) (gcons (place_row.the_row.coded.code p) (gcons (coded_ghost_expr.code a) (gcons (command_case_codes b) gnil)))
   ghost_command_code (tree.block p a) = gcons (gnum 10) (gcons (place_row.the_row.coded.code p) (gcons (ghost_command_codes a) gnil))
 
+  -- how a list of these is stored
   pub ghost_command_codes : GhostCommandTrees → Gv
   ghost_command_codes no_ghost_command = gnil
   ghost_command_codes (more_ghost_command x xs) = gcons (ghost_command_code x) (ghost_command_codes xs)
 
+  -- how it is stored
   pub command_case_code : CommandCaseTree → Gv
   command_case_code (tree.command_case p a b) = gcons (gnum 0) (gcons (place_row.the_row.coded.code p) (gcons (case_pattern_row.the_row.coded.code a) (gcons (ghost_command_codes b) gnil)))
 
+  -- how a list of these is stored
   pub command_case_codes : CommandCaseTrees → Gv
   command_case_codes no_command_case = gnil
   command_case_codes (more_command_case x xs) = gcons (command_case_code x) (command_case_codes xs)
 
 mutual
+  -- what is stored alike is the same
   pub ghost_command_inj : (x y : GhostCommandTree) → ghost_command_code x ≡ ghost_command_code y → x ≡ y
   ghost_command_inj (tree.open_ p a b c d) (tree.open_ p' a' b' c' d') e = λ i. tree.open_ (place_row.the_row.coded.inj p p' (ap (λ g. head (tail g)) e) i) ((coded_option share_row.the_row.coded).inj a a' (ap (λ g. head (tail (tail g))) e) i) (name_row.the_row.coded.inj b b' (ap (λ g. head (tail (tail (tail g)))) e) i) ((coded_list pattern_row.the_row.coded).inj c c' (ap (λ g. head (tail (tail (tail (tail g))))) e) i) ((coded_option (coded_list pattern_row.the_row.coded)).inj d d' (ap (λ g. head (tail (tail (tail (tail (tail g)))))) e) i)
   ghost_command_inj (tree.close_ p a b c d) (tree.close_ p' a' b' c' d') e = λ i. tree.close_ (place_row.the_row.coded.inj p p' (ap (λ g. head (tail g)) e) i) ((coded_option share_row.the_row.coded).inj a a' (ap (λ g. head (tail (tail g))) e) i) (name_row.the_row.coded.inj b b' (ap (λ g. head (tail (tail (tail g)))) e) i) ((coded_list pattern_row.the_row.coded).inj c c' (ap (λ g. head (tail (tail (tail (tail g))))) e) i) ((coded_option (coded_list pattern_row.the_row.coded)).inj d d' (ap (λ g. head (tail (tail (tail (tail (tail g)))))) e) i)
@@ -55,27 +60,34 @@ mutual
   ghost_command_inj (tree.block p a) (tree.block p' a') e = λ i. tree.block (place_row.the_row.coded.inj p p' (ap (λ g. head (tail g)) e) i) (ghost_command_injs a a' (ap (λ g. head (tail (tail g))) e) i)
   ghost_command_inj x y e = absurd (omega (arith, ap tag e))
 
+  -- lists that are stored alike are the same
   pub ghost_command_injs : (x y : GhostCommandTrees) → ghost_command_codes x ≡ ghost_command_codes y → x ≡ y
   ghost_command_injs (more_ghost_command x xs) (more_ghost_command y ys) e = λ i. more_ghost_command (ghost_command_inj x y (ap head e) i) (ghost_command_injs xs ys (ap tail e) i)
   ghost_command_injs no_ghost_command no_ghost_command e = refl
   ghost_command_injs x y e = cc
 
+  -- what is stored alike is the same
   pub command_case_inj : (x y : CommandCaseTree) → command_case_code x ≡ command_case_code y → x ≡ y
   command_case_inj (tree.command_case p a b) (tree.command_case p' a' b') e = λ i. tree.command_case (place_row.the_row.coded.inj p p' (ap (λ g. head (tail g)) e) i) (case_pattern_row.the_row.coded.inj a a' (ap (λ g. head (tail (tail g))) e) i) (ghost_command_injs b b' (ap (λ g. head (tail (tail (tail g)))) e) i)
 
+  -- lists that are stored alike are the same
   pub command_case_injs : (x y : CommandCaseTrees) → command_case_codes x ≡ command_case_codes y → x ≡ y
   command_case_injs (more_command_case x xs) (more_command_case y ys) e = λ i. more_command_case (command_case_inj x y (ap head e) i) (command_case_injs xs ys (ap tail e) i)
   command_case_injs no_command_case no_command_case e = refl
   command_case_injs x y e = cc
 
+-- its code
 abbrev pub coded_ghost_command : Coded GhostCommandTree
 coded_ghost_command = record { code = ghost_command_code; inj = ghost_command_inj }
 
+-- the code of lists of these
 abbrev pub coded_ghost_command_list : Coded (List GhostCommandTree)
 coded_ghost_command_list = coded_list coded_ghost_command
 
+-- its code
 abbrev pub coded_command_case : Coded CommandCaseTree
 coded_command_case = record { code = command_case_code; inj = command_case_inj }
 
+-- the code of lists of these
 abbrev pub coded_command_case_list : Coded (List CommandCaseTree)
 coded_command_case_list = coded_list coded_command_case

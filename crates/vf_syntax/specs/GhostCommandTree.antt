@@ -66,6 +66,7 @@ abbrev mutual
   ghost_command_nodes (switch_ p a b) = command_case_nodes_all b + 1
   ghost_command_nodes (block p a) = ghost_command_nodes_all a + 1
 
+  -- how many nodes a list of these has
   pub ghost_command_nodes_all : GhostCommandTrees → ℕ
   ghost_command_nodes_all no_ghost_command = 0
   ghost_command_nodes_all (more_ghost_command x xs) = ghost_command_nodes x + ghost_command_nodes_all xs + 1
@@ -74,6 +75,7 @@ abbrev mutual
   pub command_case_nodes : CommandCaseTree → ℕ
   command_case_nodes (command_case p a b) = ghost_command_nodes_all b + 1
 
+  -- how many nodes a list of these has
   pub command_case_nodes_all : CommandCaseTrees → ℕ
   command_case_nodes_all no_command_case = 0
   command_case_nodes_all (more_command_case x xs) = command_case_nodes x + command_case_nodes_all xs + 1

@@ -65,6 +65,7 @@ abbrev mutual
   ghost_expr_nodes (unary p a b) = ghost_expr_nodes b + 1
   ghost_expr_nodes (chain p a b c) = ghost_expr_nodes b + ghost_link_nodes_all c + 1
 
+  -- how many nodes a list of these has
   pub ghost_expr_nodes_all : GhostExprTrees → ℕ
   ghost_expr_nodes_all no_ghost_expr = 0
   ghost_expr_nodes_all (more_ghost_expr x xs) = ghost_expr_nodes x + ghost_expr_nodes_all xs + 1
@@ -73,6 +74,7 @@ abbrev mutual
   pub ghost_link_nodes : GhostLinkTree → ℕ
   ghost_link_nodes (ghost_link p a b) = ghost_expr_nodes b + 1
 
+  -- how many nodes a list of these has
   pub ghost_link_nodes_all : GhostLinkTrees → ℕ
   ghost_link_nodes_all no_ghost_link = 0
   ghost_link_nodes_all (more_ghost_link x xs) = ghost_link_nodes x + ghost_link_nodes_all xs + 1

@@ -42,6 +42,7 @@ abbrev mutual
   sort_nesting (sorts.predicate_ p xs) = sorts_nesting xs
   sort_nesting s = 0
 
+  -- the deepest of some sorts, each of which counts one
   pub sorts_nesting : SortTrees → ℕ
   sorts_nesting no_sort = 0
   sorts_nesting (more_sort x xs) = max (sort_nesting x + 1) (sorts_nesting xs)
@@ -85,6 +86,7 @@ abbrev mutual
   pub ghost_link : Level → GhostLinkTree → Walk
   ghost_link l (tree.ghost_link p o a) = at p ⨾ provided (ghost_joins_on l (tree.ghost_link p o a)) ⨾ mark Ghost (binary_mark o) ⨾ ghost_expr a
 
+  -- links, one after another
   pub ghost_links : Level → GhostLinkTrees → Walk
   ghost_links l no_ghost_link = nothing
   ghost_links l (more_ghost_link x xs) = ghost_link l x ⨾ ghost_links l xs
@@ -109,13 +111,16 @@ abbrev mutual
   ghost_nesting (tree.chain p l a xs) = max (ghost_nesting a) (ghost_links_nesting xs)
   ghost_nesting e = 0
 
+  -- how deep the operand of a link nests
   pub ghost_link_nesting : GhostLinkTree → ℕ
   ghost_link_nesting (tree.ghost_link p o a) = ghost_nesting a
 
+  -- the deepest of some links
   pub ghost_links_nesting : GhostLinkTrees → ℕ
   ghost_links_nesting no_ghost_link = 0
   ghost_links_nesting (more_ghost_link x xs) = max (ghost_link_nesting x) (ghost_links_nesting xs)
 
+  -- the deepest of some arguments, each of which counts one
   pub ghost_arguments_nesting : GhostExprTrees → ℕ
   ghost_arguments_nesting no_ghost_expr = 0
   ghost_arguments_nesting (more_ghost_expr x xs) = max (ghost_nesting x + 1) (ghost_arguments_nesting xs)

@@ -34,6 +34,7 @@ abbrev mutual
   sort_nodes (name_ p a b) = sort_nodes_all b + 1
   sort_nodes (predicate_ p a) = sort_nodes_all a + 1
 
+  -- how many nodes a list of these has
   pub sort_nodes_all : SortTrees → ℕ
   sort_nodes_all no_sort = 0
   sort_nodes_all (more_sort x xs) = sort_nodes x + sort_nodes_all xs + 1

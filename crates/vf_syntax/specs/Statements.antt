@@ -128,6 +128,7 @@ abbrev mutual
   stmt grammars.Whole (tree.ghost p c) = at p ⨾ command c
   stmt grammars.Plain (tree.ghost p c) = never
 
+  -- statements and ghost commands, one after another
   pub stmts : Grammar → StmtTrees → Walk
   stmts g no_stmt = nothing
   stmts g (more_stmt x xs) = stmt g x ⨾ stmts g xs
@@ -139,6 +140,7 @@ simple_nesting (simples.StepAfter a o q) = nesting a
 simple_nesting (simples.StepBefore q o a) = nesting a
 simple_nesting (simples.Call e) = nesting e
 
+-- how deep what stands first in a `for` nests
 abbrev pub first_nesting : First → ℕ
 first_nesting (firsts.Declaration t n e) = nesting e + 1
 first_nesting (firsts.Simple s) = simple_nesting s
@@ -151,6 +153,7 @@ whole_nesting e = nesting e + 1
 abbrev pub invariant_nesting : Invariant → ℕ
 invariant_nesting i = parts_nesting (part_list i.assertion) + 1
 
+-- how deep a contract nests: each of its two assertions counts one
 abbrev pub contract_nesting : Contract → ℕ
 contract_nesting c = max (parts_nesting (part_list c.precondition) + 1) (parts_nesting (part_list c.postcondition) + 1)
 
@@ -168,6 +171,7 @@ abbrev mutual
   stmt_nesting (tree.empty_ p) = 0
   stmt_nesting (tree.ghost p c) = command_nesting c
 
+  -- the deepest of some statements, each of which counts one
   pub stmts_nesting : StmtTrees → ℕ
   stmts_nesting no_stmt = 0
   stmts_nesting (more_stmt x xs) = max (stmt_nesting x + 1) (stmts_nesting xs)

@@ -50,6 +50,7 @@ abbrev mutual
   stmt_nodes (empty_ p) = 1
   stmt_nodes (ghost p a) = 1
 
+  -- how many nodes a list of these has
   pub stmt_nodes_all : StmtTrees → ℕ
   stmt_nodes_all no_stmt = 0
   stmt_nodes_all (more_stmt x xs) = stmt_nodes x + stmt_nodes_all xs + 1

@@ -77,6 +77,7 @@ more_ghost_parameters (x ∷ xs) = mark Ghost (if x.after_semicolon then punctua
 abbrev pub first_ghost_parameter : GhostParameter → Walk
 first_ghost_parameter x = if x.after_semicolon then never else ghost_parameter x
 
+-- ghost parameters with commas or semicolons between them
 abbrev pub ghost_parameters_inside : List GhostParameter → Walk
 ghost_parameters_inside [] = nothing
 ghost_parameters_inside (x ∷ xs) = first_ghost_parameter x ⨾ more_ghost_parameters xs
@@ -162,22 +163,28 @@ item grammars.Plain (items.Ghost x) = never
 unfoldable pub unit : Grammar → Unit → Walk
 unit g u = each (item g) u.items
 
+-- how deep a ghost parameter nests: its sort counts one
 abbrev pub ghost_parameter_nesting : GhostParameter → ℕ
 ghost_parameter_nesting x = sort_nesting x.sort + 1
 
+-- how deep an argument of a constructor nests: its sort counts one
 abbrev pub constructor_argument_nesting : ConstructorArgument → ℕ
 constructor_argument_nesting x = sort_nesting x.sort + 1
 
+-- how deep a constructor nests
 abbrev pub constructor_nesting : Constructor → ℕ
 constructor_nesting x = or_none (greatest constructor_argument_nesting) x.arguments
 
+-- how deep a case of a fixpoint nests: its value counts one
 abbrev pub fixpoint_case_nesting : FixpointCase → ℕ
 fixpoint_case_nesting c = ghost_nesting c.value + 1
 
+-- how deep what stands between the braces of a fixpoint nests
 abbrev pub fixpoint_body_nesting : FixpointBody → ℕ
 fixpoint_body_nesting (fixpoints.Value e) = ghost_nesting e + 1
 fixpoint_body_nesting (fixpoints.Switch n cs) = greatest fixpoint_case_nesting cs
 
+-- how deep a ghost item nests
 abbrev pub ghost_form_nesting : GhostForm → ℕ
 ghost_form_nesting (forms.Inductive n ts bar cs) = greatest constructor_nesting cs
 ghost_form_nesting (forms.Fixpoint s n ts ps b) = max (sort_nesting s + 1) (max (greatest ghost_parameter_nesting ps) (fixpoint_body_nesting b))

@@ -14,6 +14,11 @@ parts-loop-preserved t c =
     let plain : is_conditional c.in_ok-next.next ≡ false = grind (arith, common_steps) in
     rw c.in_ok-push-2.ensures (
       some_pushed c.loop.parts c.in_ok-next.next,
-      (none_pushed c.loop.parts c.in_ok-next.next c.loop.invariant.1.0 plain,
-        (parts_push c.loop.parts c.in_ok-next.next c.args.cursor.now.left.now c.loop.cursor.left.now c.next_part.new.cursor.left.now c.loop.invariant.0 c.loop.invariant.1.0 c.loop.invariant.1.1.0 c.in_ok-next.ensures.spelled,
-          parts_nesting_push c.loop.parts c.in_ok-next.next c.args.depth c.loop.invariant.1.1.1 c.in_ok-next.ensures.nested)))
+      (
+        none_pushed c.loop.parts c.in_ok-next.next c.loop.invariant.1.0 plain,
+        (
+          parts_push c.loop.parts c.in_ok-next.next c.args.cursor.now.left.now c.loop.cursor.left.now c.next_part.new.cursor.left.now c.loop.invariant.0 c.loop.invariant.1.0 c.loop.invariant.1.1.0 c.in_ok-next.ensures.spelled,
+          parts_nesting_push c.loop.parts c.in_ok-next.next c.args.depth c.loop.invariant.1.1.1 c.in_ok-next.ensures.nested,
+        ),
+      ),
+    )
