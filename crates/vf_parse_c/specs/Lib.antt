@@ -1,0 +1,2 @@
+pub mod Unsupported
+pub mod Plain
