@@ -1,0 +1,121 @@
+//! Heads and nodes.
+
+ghost use Rattle.std.specs.Prelude.{◌≡◌, ◌↔◌, ℤ, pos, length, IsTrue, MatchOption};
+ghost use Rattle.vf_table.specs.Tables.{IsInjective, IsOfIntegers, IsInteger, IsNumber, AreClashing, HaveClashingHeads};
+
+/// What stands above the parts of a term.
+#[derive(Clone, Copy, PartialEq, Eq, Debug)]
+pub enum Head {
+    /// A whole number.
+    Number(i128),
+    /// A truth value.
+    Truth(bool),
+    /// The null pointer.
+    Null,
+    /// A function, by its number among the functions of the question.
+    Function(u32),
+    /// A constructor of a datatype, by its number among the constructors of the question.
+    Constructor(u32),
+    /// A sum and a number, its two parts.
+    Plus,
+    /// Any other head of integer terms, by its number.
+    Integer(u32),
+    /// Any other head of terms that are not integers, by its number.
+    Other(u32),
+}
+
+/// A term of a table: its head, and its parts by their numbers.
+#[derive(Debug, Drop)]
+pub struct Node {
+    pub head: Head,
+    pub parts: Vec<u32>,
+}
+
+/// Whether two terms have one head and as many parts.
+pub fn have_one_head(m: &Node, n: &Node) -> bool
+    ensures { IsTrue result ↔ (m.now.head ≡ n.now.head) × (length m.now.parts.items ≡ length n.now.parts.items) }
+{
+    m.head == n.head && m.parts.len() == n.parts.len()
+}
+
+/// Whether equal terms with this head have equal parts.
+pub fn is_injective(head: Head) -> bool
+    ensures { IsTrue result ↔ IsInjective head }
+{
+    match head {
+        Head::Constructor(_) => true,
+        _ => false,
+    }
+}
+
+/// Whether the terms with this head have numbers for their values.
+fn is_of_integers(head: Head) -> bool
+    ensures { IsTrue result ↔ IsOfIntegers head }
+{
+    match head {
+        Head::Number(_) => true,
+        Head::Plus => true,
+        Head::Integer(_) => true,
+        _ => false,
+    }
+}
+
+/// Whether a term is an integer term of the table.
+pub fn is_integer(nodes: &[Node], x: u32) -> bool
+    ensures { IsTrue result ↔ IsInteger nodes.now x }
+{
+    match nodes.get(x as usize) {
+        Some(node) => is_of_integers(node.head),
+        None => false,
+    }
+}
+
+/// The number that a term is, if it is one.
+pub fn number_at(nodes: &[Node], x: u32) -> Option<i128>
+    ensures { MatchOption result ((c : ℤ) → IsNumber nodes.now x c → ⊥) (λ c. IsNumber nodes.now x c) }
+{
+    match nodes.get(x as usize)?.head {
+        Head::Number(c) => Some(c),
+        _ => None,
+    }
+}
+
+/// Whether a term is the number 0.
+pub fn is_zero(nodes: &[Node], x: u32) -> bool
+    ensures { IsTrue result ↔ IsNumber nodes.now x (pos 0) }
+{
+    match nodes.get(x as usize) {
+        Some(node) => match node.head {
+            Head::Number(c) => c == 0,
+            _ => false,
+        },
+        None => false,
+    }
+}
+
+/// Whether no two equal terms have these heads, the second being no null.
+fn are_clashing(m: Head, n: Head) -> bool
+    ensures { IsTrue result ↔ AreClashing m n }
+{
+    match (m, n) {
+        (Head::Constructor(c), Head::Constructor(d)) => c != d,
+        (Head::Number(a), Head::Number(b)) => a != b,
+        (Head::Truth(a), Head::Truth(b)) => a != b,
+        (Head::Function(g), Head::Function(h)) => g != h,
+        (Head::Null, Head::Function(_)) => true,
+        _ => false,
+    }
+}
+
+/// Whether the heads of two terms clash.
+pub fn have_clashing_heads(nodes: &[Node], x: u32, y: u32) -> bool
+    ensures { IsTrue result ↔ HaveClashingHeads nodes.now x y }
+{
+    match nodes.get(x as usize) {
+        Some(m) => match nodes.get(y as usize) {
+            Some(n) => are_clashing(m.head, n.head),
+            None => false,
+        },
+        None => false,
+    }
+}
