@@ -1,3 +1,3 @@
 pub mod Distances
 pub mod Simplified
-pub mod Matrix
+pub mod Entries

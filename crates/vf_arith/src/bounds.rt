@@ -8,9 +8,6 @@ use std::alloc::Global;
 use std::marker::Model;
 use vf_base::Memory;
 
-/// The most points that bounds can have.
-pub const MOST_POINTS: u32 = 4096;
-
 /// A bound: the point `from` less the point `to` is at most `most`.
 #[derive(Clone, Copy, Debug)]
 pub struct Edge {

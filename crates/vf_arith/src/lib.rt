@@ -7,4 +7,4 @@
 mod bounds;
 mod matrix;
 
-pub use bounds::{Bounds, Edge, MOST_POINTS};
+pub use bounds::{Bounds, Edge};

@@ -1,5 +1,5 @@
 -- The terms of a question as a table, in which a term is a number.
-use Rattle.std.specs.Prelude.{◌≡◌, ◌≢◌, ℕ, ◌<◌, ℤ, List, length, All, Option, Some, slice_get}
+use Rattle.std.specs.Prelude.{◌≡◌, ◌≢◌, ℕ, ◌<◌, ℤ, List, length, All, Some, slice_get, slice_index}
 use Rattle.vf_table.specs.declared.node.Head.{Head}
 use Rattle.vf_table.specs.declared.node.Head.TheVariants.{Number, Truth, Null, Function, Constructor, Plus, Integer, Other}
 use Rattle.vf_table.specs.declared.node.Node.{Node}
@@ -37,6 +37,15 @@ IsInteger nodes x = (n : Node) × (slice_get nodes x ≡ Some n) × IsOfIntegers
 -- a term of the table that is the number c
 abbrev pub IsNumber : List Node → ℕ → ℤ → Type 0
 IsNumber nodes x c = (n : Node) × (slice_get nodes x ≡ Some n) × (n.head ≡ Number c)
+
+-- a term of the table that is the sum of q and the number c
+pub record IsPlus (nodes : List Node) (a q : ℕ) (c : ℤ) : Type 0 where
+  pub node : Node
+  pub found : slice_get nodes a ≡ Some node
+  pub head : node.head ≡ Plus
+  pub two : length node.parts.items ≡ 2
+  pub part : slice_index node.parts.items 0 ≡ q
+  pub number : IsNumber nodes (slice_index node.parts.items 1) c
 
 -- two heads that no two equal terms have: different constructors, numbers, truth values or functions, and null beside a function
 abbrev pub AreClashing : Head → Head → Type 0

@@ -1,7 +1,7 @@
 //! Heads and nodes.
 
-ghost use Rattle.std.specs.Prelude.{◌≡◌, ◌↔◌, ℤ, pos, length, IsTrue, MatchOption};
-ghost use Rattle.vf_table.specs.Tables.{IsInjective, IsOfIntegers, IsInteger, IsNumber, AreClashing, HaveClashingHeads};
+ghost use Rattle.std.specs.Prelude.{◌≡◌, ◌↔◌, ℕ, ℤ, pos, length, IsTrue, MatchOption};
+ghost use Rattle.vf_table.specs.Tables.{IsInjective, IsOfIntegers, IsInteger, IsNumber, IsPlus, AreClashing, HaveClashingHeads};
 
 /// What stands above the parts of a term.
 #[derive(Clone, Copy, PartialEq, Eq, Debug)]
@@ -91,6 +91,41 @@ pub fn is_zero(nodes: &[Node], x: u32) -> bool
         },
         None => false,
     }
+}
+
+/// A sum: the term that a number is added to, and the number.
+#[derive(Clone, Copy, Debug)]
+pub struct Shift {
+    pub part: u32,
+    pub number: i128,
+}
+
+/// Whether a head is that of a sum and a number.
+fn is_plus(head: Head) -> bool
+    ensures { IsTrue result ↔ (head ≡ Head.Plus) }
+{
+    match head {
+        Head::Plus => true,
+        _ => false,
+    }
+}
+
+/// The sum of a term and a number that a term is, if it is one.
+pub fn shift_at(nodes: &[Node], a: u32) -> Option<Shift>
+    ensures { MatchOption result ((q : ℕ) (c : ℤ) → IsPlus nodes.now a q c → ⊥) (λ s. IsPlus nodes.now a s.part s.number) }
+{
+    let node = nodes.get(a as usize)?;
+    if !is_plus(node.head) {
+        return None;
+    }
+    if node.parts.len() != 2 {
+        return None;
+    }
+    let number = number_at(nodes, node.parts[1])?;
+    Some(Shift {
+        part: node.parts[0],
+        number,
+    })
 }
 
 /// Whether no two equal terms have these heads, the second being no null.

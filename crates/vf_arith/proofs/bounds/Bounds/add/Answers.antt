@@ -5,7 +5,7 @@ use Rattle.std.proofs.lemmas.Int.{ints, to_z-of_z}
 use Rattle.std.specs.Prelude.{ℤ, pos, ◌+ℤ◌, ◌<ℤ◌, Option, List}
 use Rattle.vf_arith.specs.Paths.{Network}
 use Rattle.vf_arith.specs.Matrices.{distance, entry, AreSmall, lesser, over_edge}
-use Rattle.vf_arith.proofs.Matrix.{cycle_more, weight_falls, matrix_cyclic, matrix_closes, matrix_relaxed, at_entry, column_small, rows_small, written}
+use Rattle.vf_arith.proofs.Entries.{cycle_more, weight_falls, matrix_cyclic, matrix_closes, matrix_relaxed, at_entry, column_small, rows_small, written}
 use Rattle.vf_arith.proofs.bounds.Bounds.add.Goals as goal
 
 pub invariant_of-self-then-self : goal.invariant_of-self-then-self

@@ -2,7 +2,7 @@ use Rattle.std.proofs.Common.{◌≡◌, ◌<◌, ◌+◌, ◌*◌, length, ap, 
 use Rattle.std.proofs.lemmas.Nat.{mul-add-lt}
 use Rattle.vf_arith.specs.Paths.{Network, HasNegativeCycle}
 use Rattle.vf_arith.specs.Matrices.{distance}
-use Rattle.vf_arith.proofs.Matrix.{cycle_iff, bound_is, at_entry}
+use Rattle.vf_arith.proofs.Entries.{cycle_iff, bound_is, at_entry}
 use Rattle.vf_arith.proofs.bounds.Bounds.bound.Goals as goal
 
 unset : (b : Bool) → (b ≡ true → ⊥) → b ≡ false

@@ -1,6 +1,6 @@
 use Rattle.std.proofs.Common.{ap}
 use Rattle.vf_arith.specs.Paths.{Network, HasNegativeCycle}
-use Rattle.vf_arith.proofs.Matrix.{cycle_iff}
+use Rattle.vf_arith.proofs.Entries.{cycle_iff}
 use Rattle.vf_arith.proofs.bounds.Bounds.conflict.Goals as goal
 
 pub returns : goal.returns

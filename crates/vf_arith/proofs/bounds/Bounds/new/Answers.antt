@@ -1,5 +1,5 @@
 use Rattle.std.proofs.Common.{ap, sym, ◌∙◌, refl, true, false}
-use Rattle.vf_arith.proofs.Matrix.{matrix_none}
+use Rattle.vf_arith.proofs.Entries.{matrix_none}
 use Rattle.vf_arith.proofs.bounds.Bounds.new.Goals as goal
 
 pub invariant_of-result : goal.invariant_of-result
