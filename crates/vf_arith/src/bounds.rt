@@ -8,12 +8,22 @@ use std::alloc::Global;
 use std::marker::Model;
 use vf_base::Memory;
 
+/// The most that a number in a bound can be.
+const SMALL: i128 = 1 << 100;
+
 /// A bound: the point `from` less the point `to` is at most `most`.
 #[derive(Clone, Copy, Debug)]
 pub struct Edge {
     pub from: u32,
     pub to: u32,
     pub most: i128,
+}
+
+/// Whether a number can stand in a bound: within plus and minus 2^100.
+pub fn is_small(c: i128) -> bool
+    ensures { IsTrue result ↔ IsSmall (2 ^ 100) c }
+{
+    -SMALL <= c && c <= SMALL
 }
 
 /// Bounds between points, with the least weights of their paths.

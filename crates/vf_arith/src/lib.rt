@@ -7,4 +7,4 @@
 mod bounds;
 mod matrix;
 
-pub use bounds::{Bounds, Edge};
+pub use bounds::{Bounds, Edge, is_small};

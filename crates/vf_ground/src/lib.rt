@@ -5,7 +5,11 @@
 #![tactic(auto)]
 
 mod exchange;
+mod fine;
 mod gather;
+#[cfg(test)]
+mod tests;
 mod verdict;
 
+pub use fine::{are_fine, numbers_are_small};
 pub use verdict::is_refuted;

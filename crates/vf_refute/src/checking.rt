@@ -1,10 +1,10 @@
 //! The check of a refutation.
 
-ghost use Rattle.std.specs.Prelude.{IsTrue, IfOk, Contains, neg_ℤ};
+ghost use Rattle.std.specs.Prelude.{◌≡◌, IsTrue, IfOk, Contains, neg_ℤ};
 ghost use Rattle.vf_refute.specs.Closure.{Conflict};
 ghost use Rattle.vf_refute.specs.Steps.{AllFollow};
 
-use crate::rows::{bound_at, derive, equality_at};
+use crate::rows::{Span, bound_at, derive, equality_at, negative};
 use crate::steps::{Derived, Fact, Step};
 use std::alloc::Global;
 use vf_base::Memory;
@@ -41,22 +41,103 @@ fn is_conflict(nodes: &[Node], facts: &[Fact], known: &[Derived], a: u32) -> boo
     false
 }
 
-/// Whether steps refute the facts.
+/// Whether a fact says that the difference of two terms is not a number.
+fn is_denied(facts: &[Fact], x: u32, y: u32, c: i128) -> bool
+    ensures { IsTrue result → Contains facts.now (Fact.NotDifference x y c) }
+{
+    for fact in facts {
+        match fact {
+            Fact::NotDifference(a, b, d) => {
+                if *a == x && *b == y && *d == c {
+                    return true;
+                }
+            }
+            _ => {}
+        }
+    }
+    false
+}
+
+/// Whether a bound is the opposite of another one: between the same terms the other way round, by
+/// the negative of its number.
+fn are_opposite(p: Span, q: Span) -> bool
+    ensures { IsTrue result → (q.left ≡ p.right) × (q.right ≡ p.left) × (q.most ≡ neg_ℤ p.most) }
+{
+    match negative(p.most) {
+        Some(most) => {
+            if q.left != p.right {
+                return false;
+            }
+            if q.right != p.left {
+                return false;
+            }
+            q.most == most
+        }
+        None => false,
+    }
+}
+
+/// Whether two steps bound a difference both ways by a number that a fact denies it to be.
+fn is_denied_difference(
+    nodes: &[Node],
+    facts: &[Fact],
+    known: &[Derived],
+    a: u32,
+    b: u32,
+) -> bool
+    requires { AllFollow nodes.now facts.now known.now }
+    ensures { IsTrue result → Conflict nodes.now facts.now }
+{
+    match bound_at(nodes, facts, known, a) {
+        Some(p) => match bound_at(nodes, facts, known, b) {
+            Some(q) => {
+                if !are_opposite(p, q) {
+                    return false;
+                }
+                is_denied(facts, p.left, p.right, p.most)
+            }
+            None => false,
+        },
+        None => false,
+    }
+}
+
+/// Whether a fact is one that nothing meets.
+fn is_false(facts: &[Fact], i: u32) -> bool
+    ensures { IsTrue result → Contains facts.now Fact.False }
+{
+    match facts.get(i as usize) {
+        Some(Fact::False) => true,
+        _ => false,
+    }
+}
+
+/// Whether a step is a last one, and names a conflict.
+fn ends(nodes: &[Node], facts: &[Fact], known: &[Derived], step: &Step) -> bool
+    requires { AllFollow nodes.now facts.now known.now }
+    ensures { IsTrue result → Conflict nodes.now facts.now }
+{
+    match step {
+        Step::Conflict(a) => is_conflict(nodes, facts, known, *a),
+        Step::DeniedDifference(a, b) => is_denied_difference(nodes, facts, known, *a, *b),
+        Step::Falsehood(i) => is_false(facts, *i),
+        _ => false,
+    }
+}
+
+/// Whether steps refute the facts: each derives what it says, and the last names a conflict.
 pub fn recheck(
     alloc: Global,
     nodes: &[Node],
     facts: &[Fact],
     steps: &[Step],
 ) -> Result<bool, Memory>
-    ensures { IfOk result (λ yes. IsTrue yes → Conflict nodes.now facts.now) }
+    ensures sound { IfOk result (λ yes. IsTrue yes → Conflict nodes.now facts.now) }
 {
     let mut known: Vec<Derived> = Vec::new(alloc);
     for (i, step) in steps.iter().enumerate() {
-        if let Step::Conflict(a) = step {
-            if i + 1 != steps.len() {
-                return Ok(false);
-            }
-            return Ok(is_conflict(nodes, facts, &known, *a));
+        if i + 1 == steps.len() {
+            return Ok(ends(nodes, facts, &known, step));
         }
         match derive(nodes, facts, &known, step) {
             Some(derived) => known.push(derived)?,

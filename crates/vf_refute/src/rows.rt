@@ -56,7 +56,7 @@ pub fn bound_at(nodes: &[Node], facts: &[Fact], known: &[Derived], a: u32) -> Op
 }
 
 /// The negative of a number, within the limit.
-fn negative(c: i128) -> Option<i128>
+pub fn negative(c: i128) -> Option<i128>
     ensures { IfSome result (λ d. d ≡ neg_ℤ c) }
 {
     if -LIMIT <= c && c <= LIMIT {

@@ -62,4 +62,6 @@ pub enum Step {
     Conflict(u32),
     /// The last step: two bounds say the difference that a fact denies.
     DeniedDifference(u32, u32),
+    /// The last step: a fact that nothing meets, by its number among the facts.
+    Falsehood(u32),
 }

@@ -1,7 +1,7 @@
 //! Heads and nodes.
 
-ghost use Rattle.std.specs.Prelude.{◌≡◌, ◌↔◌, ℕ, ℤ, pos, length, IsTrue, MatchOption};
-ghost use Rattle.vf_table.specs.Tables.{IsInjective, IsOfIntegers, IsInteger, IsNumber, IsPlus, AreClashing, HaveClashingHeads};
+ghost use Rattle.std.specs.Prelude.{◌≡◌, ◌↔◌, ◌<◌, ℕ, ℤ, pos, length, All, IsTrue, MatchOption};
+ghost use Rattle.vf_table.specs.Tables.{PartsAreBelow, IsInjective, IsOfIntegers, IsInteger, IsNumber, IsPlus, AreClashing, HaveClashingHeads};
 
 /// What stands above the parts of a term.
 #[derive(Clone, Copy, PartialEq, Eq, Debug)]
@@ -29,6 +29,30 @@ pub enum Head {
 pub struct Node {
     pub head: Head,
     pub parts: Vec<u32>,
+}
+
+/// Whether each number of a list is below another.
+fn are_below(parts: &[u32], n: usize) -> bool
+    ensures { IsTrue result ↔ All (λ part. part < n) parts.now }
+{
+    for part in parts {
+        if *part as usize >= n {
+            return false;
+        }
+    }
+    true
+}
+
+/// Whether the parts of each term are terms of the table.
+pub fn parts_are_below(nodes: &[Node]) -> bool
+    ensures { IsTrue result ↔ PartsAreBelow nodes.now (length nodes.now) }
+{
+    for node in nodes {
+        if !are_below(&node.parts, nodes.len()) {
+            return false;
+        }
+    }
+    true
 }
 
 /// Whether two terms have one head and as many parts.
