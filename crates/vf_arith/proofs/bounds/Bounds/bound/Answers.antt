@@ -1,0 +1,20 @@
+use Rattle.std.proofs.Common.{◌≡◌, ◌<◌, ◌+◌, ◌*◌, length, ap, sym, ◌∙◌, refl, true, false, arith, Bool}
+use Rattle.std.proofs.lemmas.Nat.{mul-add-lt}
+use Rattle.vf_arith.specs.Paths.{Network, HasNegativeCycle}
+use Rattle.vf_arith.specs.Matrices.{distance}
+use Rattle.vf_arith.proofs.Entries.{cycle_iff, bound_is, at_entry}
+use Rattle.vf_arith.proofs.bounds.Bounds.bound.Goals as goal
+
+unset : (b : Bool) → (b ≡ true → ⊥) → b ≡ false
+unset true h = absurd (h refl)
+unset false h = refl
+
+pub returns : goal.returns
+returns c =
+    let x : c.args.x < c.self.inside.size = omega (arith, c.requires.left, ap (λ (a : Network). a.size) c.self.view_is) in
+    let y : c.args.y < c.self.inside.size = omega (arith, c.requires.right, ap (λ (a : Network). a.size) c.self.view_is) in
+    rw (← ap (λ (a : Network). a.edges) c.self.view_is)
+    (bound_is c.self.inside.size c.self.inside.edges.items (distance c.self.inside.size c.self.inside.matrix.items)
+    (c.self.invariant.exact (unset c.self.inside.cyclic (λ e. c.requires.fine (rw (← ap (λ (a : Network). a.edges) c.self.view_is) (c.self.invariant.bad e)))))
+    c.args.x c.args.y x y c.index.result.now
+    (at_entry c.self.inside.matrix.items (c.args.x * c.self.inside.size + c.args.y) c.index.result.now (let l = mul-add-lt c.args.x c.self.inside.size c.args.y c.self.inside.size x y in let g = c.self.invariant.long in omega arith) c.index.ensures))

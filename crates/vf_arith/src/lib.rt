@@ -1,0 +1,10 @@
+//! Bounds on differences of integer terms, with the least that follows from them.
+//!
+//! A bound `x - y <= c` is an edge of a graph. A matrix keeps the least weight of a path between each
+//! two points, and is brought up to date with each edge.
+#![tactic(auto)]
+
+mod bounds;
+mod matrix;
+
+pub use bounds::{Bounds, Edge, is_small};

@@ -1,0 +1,75 @@
+-- The closure of a question, with fixpoints unfolded to a depth, and its plain refutations.
+use Rattle.std.specs.Prelude.{◌≡◌, ◌≢◌, ℕ, zero, suc, ◌<◌, ℤ, pos, negsuc, ◌+ℤ◌, neg_ℤ, ◌≤ℤ◌, Bool, List, [], ◌++◌, Contains, Option, Some, None}
+use Rattle.vf_tree.specs.Core.{Identity}
+use Rattle.vf_closure.specs.Terms.{Head, Number, Truth, Null, Function, Constructor, Plus, Term, Terms, term, no_terms, and_term, number, plus, count, IsAt, IsWithin}
+use Rattle.vf_closure.specs.Literals.{Literal, Equal, NotEqual, AtMost, Difference, NotDifference, False, denied, compares, IsInteger}
+
+-- What the definitions of a unit give to applications of fixpoints: the body of one without a switch; the argument that one with a switch goes by; and the body of its case for a constructor's term. All in normal form
+pub record Unfoldings : Type 0 where
+  pub body : Term → Option Term
+  pub switched : Term → Option Term
+  pub case : Term → Term → Option Term
+
+-- no fixpoint can be unfolded
+abbrev pub no_unfoldings : Unfoldings
+no_unfoldings = record { body = λ t. None; switched = λ t. None; case = λ t k. None }
+
+-- two heads that no two equal terms have: different constructors, numbers, truth values or functions, and null beside a function
+pub data AreClashing : Head → Head → Type 0 where
+  two_constructors : {c d : Identity} → c ≢ d → AreClashing (Constructor c) (Constructor d)
+  two_numbers : {a b : ℤ} → a ≢ b → AreClashing (Number a) (Number b)
+  two_truths : {a b : Bool} → a ≢ b → AreClashing (Truth a) (Truth b)
+  two_functions : {g h : Identity} → g ≢ h → AreClashing (Function g) (Function h)
+  null_and_function : {g : Identity} → AreClashing Null (Function g)
+
+mutual
+  -- The terms that arise at a depth: those of the question and their subterms, and 0; what arises above; and the subterms of what an application is unfolded to
+  pub data Arises (u : Unfoldings) (facts : List Literal) : ℕ → Term → Type 0 where
+    asked : {l : Literal} {s t : Term} → Contains facts l → Contains (compares l) s → IsWithin t s → Arises u facts zero t
+    zero_arises : Arises u facts zero (number (pos 0))
+    deeper : {d : ℕ} {t : Term} → d < 4 → Arises u facts d t → Arises u facts (suc d) t
+    in_body : {d : ℕ} {t b s : Term} → d < 4 → Arises u facts d t → u.body t ≡ Some b → IsWithin s b → Arises u facts (suc d) s
+    in_case : {d : ℕ} {c : Identity} {ks : Terms} {t a b s : Term} → d < 4 → Arises u facts d t → Arises u facts d (term (Constructor c) ks) → u.switched t ≡ Some a → Same u facts a (term (Constructor c) ks) → u.case t (term (Constructor c) ks) ≡ Some b → IsWithin s b → Arises u facts (suc d) s
+
+  -- The equalities: those given; reflexive, symmetric and transitive; terms of one head with equal parts; parts of equal terms of one constructor; integer terms with bound 0 both ways; and an application with what it is unfolded to
+  pub data Same (u : Unfoldings) (facts : List Literal) : Term → Term → Type 0 where
+    given : {a b : Term} → Contains facts (Equal a b) → Same u facts a b
+    same_self : {d : ℕ} {a : Term} → Arises u facts d a → Same u facts a a
+    same_back : {a b : Term} → Same u facts a b → Same u facts b a
+    same_through : {a b c : Term} → Same u facts a b → Same u facts b c → Same u facts a c
+    congruent : {d e : ℕ} {h : Head} {xs ys : Terms} → Arises u facts d (term h xs) → Arises u facts e (term h ys) → AllSame u facts xs ys → Same u facts (term h xs) (term h ys)
+    injective : {c : Identity} {xs ys : Terms} {i : ℕ} {a b : Term} → Same u facts (term (Constructor c) xs) (term (Constructor c) ys) → count xs ≡ count ys → IsAt a i xs → IsAt b i ys → Same u facts a b
+    squeezed : {a b : Term} → IsInteger a → IsInteger b → Bound u facts a b (pos 0) → Bound u facts b a (pos 0) → Same u facts a b
+    unfolds : {d : ℕ} {t b : Term} → d < 4 → Arises u facts d t → u.body t ≡ Some b → Same u facts t b
+    unfolds_case : {d : ℕ} {c : Identity} {ks : Terms} {t a b : Term} → d < 4 → Arises u facts d t → Arises u facts d (term (Constructor c) ks) → u.switched t ≡ Some a → Same u facts a (term (Constructor c) ks) → u.case t (term (Constructor c) ks) ≡ Some b → Same u facts t b
+
+  -- terms in a row are equal, place by place
+  pub data AllSame (u : Unfoldings) (facts : List Literal) : Terms → Terms → Type 0 where
+    no_more : AllSame u facts no_terms no_terms
+    one_more : {a b : Term} {xs ys : Terms} → Same u facts a b → AllSame u facts xs ys → AllSame u facts (and_term a xs) (and_term b ys)
+
+  -- The bounds x - y <= c: those given, a difference as two; 0 between an integer term that arises and itself; weaker ones; chains; a sum Q + c differs from Q by exactly c, and a number k from 0 by exactly k; and equal integer terms have bound 0
+  pub data Bound (u : Unfoldings) (facts : List Literal) : Term → Term → ℤ → Type 0 where
+    most : {x y : Term} {c : ℤ} → Contains facts (AtMost x y c) → Bound u facts x y c
+    difference_up : {x y : Term} {c : ℤ} → Contains facts (Difference x y c) → Bound u facts x y c
+    difference_down : {x y : Term} {c : ℤ} → Contains facts (Difference x y c) → Bound u facts y x (neg_ℤ c)
+    still : {d : ℕ} {x : Term} → IsInteger x → Arises u facts d x → Bound u facts x x (pos 0)
+    weaker : {x y : Term} {c d : ℤ} → c ≤ℤ d → Bound u facts x y c → Bound u facts x y d
+    chain : {x y z : Term} {c d : ℤ} → Bound u facts x y c → Bound u facts y z d → Bound u facts x z (c +ℤ d)
+    sum_up : {d : ℕ} {q : Term} {c : ℤ} → Arises u facts d (plus q c) → Bound u facts (plus q c) q c
+    sum_down : {d : ℕ} {q : Term} {c : ℤ} → Arises u facts d (plus q c) → Bound u facts q (plus q c) (neg_ℤ c)
+    number_up : {d : ℕ} {k : ℤ} → Arises u facts d (number k) → Bound u facts (number k) (number (pos 0)) k
+    number_down : {d : ℕ} {k : ℤ} → Arises u facts d (number k) → Bound u facts (number (pos 0)) (number k) (neg_ℤ k)
+    level : {x y : Term} → IsInteger x → IsInteger y → Same u facts x y → Bound u facts x y (pos 0)
+
+-- what cannot be: a term below itself; two equal terms whose heads clash; an equality beside its negation; a difference beside its negation; `false`
+pub data Conflict (u : Unfoldings) (facts : List Literal) : Type 0 where
+  below_itself : {x : Term} → Bound u facts x x (negsuc 0) → Conflict u facts
+  clash : {h k : Head} {xs ys : Terms} → AreClashing h k → Same u facts (term h xs) (term k ys) → Conflict u facts
+  denied_equality : {a b : Term} → Contains facts (NotEqual a b) → Same u facts a b → Conflict u facts
+  denied_difference : {x y : Term} {c : ℤ} → Contains facts (NotDifference x y c) → Bound u facts x y c → Bound u facts y x (neg_ℤ c) → Conflict u facts
+  falsehood : Contains facts False → Conflict u facts
+
+-- there is a plain refutation of a question: the closure of its facts and its goal's negation has a conflict
+abbrev pub IsRefuted : Unfoldings → List Literal → Literal → Type 0
+IsRefuted u path goal = Conflict u (path ++ denied goal)

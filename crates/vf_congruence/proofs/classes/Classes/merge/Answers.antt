@@ -1,0 +1,17 @@
+use Rattle.std.proofs.Common.{◌≡◌, ◌<◌, ◌++◌, ◌∷◌, [], length, take, drop, ap, arith}
+use Rattle.vf_congruence.specs.Congruence.{Merges}
+use Rattle.vf_congruence.proofs.Meeting.{least_more, written}
+use Rattle.vf_congruence.proofs.classes.Classes.merge.Goals as goal
+
+pub invariant_of-self-2 : goal.invariant_of-self-2
+invariant_of-self-2 c =
+    let long : length c.join_and_settle.new.classes ≡ length c.self.inside.classes.items = omega (arith, c.join_and_settle.auto.classes, c.deref_mut.ensures.len, c.self.inside.classes.ok.0) in
+    let back = written c.self.inside.classes.len c.join_and_settle.new.classes (drop (length c.join_and_settle.new.classes) c.self.inside.classes.items) (omega (arith, c.self.inside.classes.ok.0)) in
+    let items = c.in_ok-push.ensures.items in
+    rw (back, items)
+    (least_more c.self.inside.nodes.items c.self.inside.merged.items c.self.inside.classes.items c.join_and_settle.new.classes c.args.a c.args.b c.self.invariant
+    (omega (arith, c.requires.left, c.self.invariant.long, ap (λ (h : Merges). length h.nodes) c.self.view_is))
+    (omega (arith, c.requires.right, c.self.invariant.long, ap (λ (h : Merges). length h.nodes) c.self.view_is))
+    long
+    (rw (c.deref.ensures.value, c.deref_mut.ensures.value) at c.join_and_settle.ensures.sound)
+    (rw (c.deref.ensures.value, c.deref_mut.ensures.value) at c.join_and_settle.ensures.complete))

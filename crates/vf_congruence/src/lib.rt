@@ -1,0 +1,11 @@
+//! Classes of equal terms, closed under congruence and injectivity of constructors.
+//!
+//! A list gives each term the number of its class. Joining two classes renames one to the number of
+//! the other, the smaller of the two, so that the sum of the numbers falls; pairs of terms are gone
+//! over until nothing is left to join.
+#![tactic(auto)]
+
+mod classes;
+mod joining;
+
+pub use classes::Classes;

@@ -1,0 +1,17 @@
+use Rattle.std.proofs.Common.{◌≡◌, refl, sym, ◌∙◌, subst, List, IsTrue, ◌↔◌}
+use Rattle.vf_table.specs.declared.node.Node.{Node}
+use Rattle.vf_refute.specs.Closure.{Conflict}
+use Rattle.vf_ground.proofs.Verdicts.{final_sound, final_complete}
+use Rattle.vf_ground.proofs.verdict.is_refuted.Goals as goal
+
+pub decide-requires-clause-sound : goal.decide-requires-clause-sound
+decide-requires-clause-sound c = final_sound c.in_ok-classes.classes.nodes c.add_facts.new.classes.nodes c.nodes.result.now c.exchange.new.classes.nodes c.args.facts.now c.add_facts.new.classes.merged c.add_facts.new.bounds.edges c.add_terms.new.bounds.edges c.exchange.new.classes.merged c.exchange.new.bounds.edges
+    c.in_ok-add_facts.ensures.nodes c.nodes.ensures c.in_ok-exchange.ensures.nodes c.in_ok-add_facts.ensures.sound c.in_ok-add_terms.ensures.added c.in_ok-exchange.ensures.grown
+
+pub decide-requires-clause-complete : goal.decide-requires-clause-complete
+decide-requires-clause-complete c = λ fine. final_complete c.add_facts.new.classes.nodes c.nodes.result.now c.exchange.new.classes.nodes c.args.facts.now c.add_facts.new.classes.merged c.add_facts.new.bounds.edges c.add_terms.new.bounds.edges c.exchange.new.classes.merged c.exchange.new.bounds.edges
+    c.nodes.ensures c.in_ok-exchange.ensures.nodes c.in_ok-add_facts.ensures.has c.in_ok-add_terms.ensures.has c.in_ok-add_terms.ensures.added c.in_ok-exchange.ensures.grown (c.in_ok-exchange.ensures.settled fine)
+
+pub returns : goal.returns
+returns c = record { exact = subst (λ (n : List Node). IsTrue c.decide.result ↔ Conflict n c.args.facts.now)
+    (c.in_ok-exchange.ensures.nodes ∙ c.in_ok-add_facts.ensures.nodes ∙ c.in_ok-classes.ensures.0) c.decide.ensures }

@@ -1,0 +1,15 @@
+//! Ground questions over a table of terms, decided: whether the closure of the facts has a conflict.
+//!
+//! Classes of equal terms and bounds between integer terms hold the facts and what the terms give of
+//! themselves; they exchange equalities and bounds until each holds what the other one does.
+#![tactic(auto)]
+
+mod exchange;
+mod fine;
+mod gather;
+#[cfg(test)]
+mod tests;
+mod verdict;
+
+pub use fine::{are_fine, numbers_are_small};
+pub use verdict::is_refuted;

@@ -1,0 +1,13 @@
+//! The steps of a refutation, and their check.
+//!
+//! A refutation is a list of steps, each of which derives an equality or a bound from the question
+//! and from earlier steps; the last names a conflict. The check goes over it once and searches for
+//! nothing.
+#![tactic(auto)]
+
+mod checking;
+mod rows;
+mod steps;
+
+pub use checking::recheck;
+pub use steps::{Derived, Fact, Numbers, Step};
