@@ -113,7 +113,7 @@ with_locals : (e : Environment) (v : Valuation) (st : SymbolicState) (locals : L
     → StandsFor e v (accept.with_local st x u) (slice_set locals x (Some w)) names q
 with_locals e v st locals names q x u w is m = record { path = m.path; locals_mean = locals_set e v st.locals locals x u w is m.locals_mean; names_mean = m.names_mean; chunks_mean = m.chunks_mean }
 
-nothing_left : (off left q : Part) → left ≡ nothing → IsSum off left q → off ≡ q
+pub nothing_left : (off left q : Part) → left ≡ nothing → IsSum off left q → off ≡ q
 nothing_left off left q is s = sym ((sums_turn off left q s).adds ∙ ap (λ z. z ⊕ off) is ∙ nothing-⊕ off)
 
 names_sorted : (e : Environment) (v : Valuation) (sorts : List Sort) (s : terms.Store) (w : Valuation) → StoreMeans e v s w → AreOfSorts e w sorts → StoreSorted e v sorts s

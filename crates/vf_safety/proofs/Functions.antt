@@ -97,7 +97,7 @@ module _ (e : Environment) (w : Valuation) where
   symbols_mean n This t h = none_some h
   symbols_mean n CurrentThread t h = none_some h
 
-  begins_mean : (n : ℕ) → StoreMeans e w (call_store (parameter_symbols n)) w
+  pub begins_mean : (n : ℕ) → StoreMeans e w (call_store (parameter_symbols n)) w
   begins_mean n = stored_means e w (store_of (parameter_symbols n)) w CurrentThread (Variable CurrentThread) (symbols_mean n) refl
 
 neutral : (q : Part) → IsSum q nothing q

@@ -1,6 +1,7 @@
 -- What is safe once it is accepted. Each law is the contract of a public function with an empty body.
 use Rattle.std.specs.Prelude.{◌≡◌, ℕ, pos, List, [], ◌∷◌, slice_get, Option, Some, None}
 use Rattle.vf_tree.specs.Core.{TypeTree, FunctionTree, ProgramTree}
+use Rattle.vf_model.specs.declared.words.Event.{Event}
 use Rattle.vf_model.specs.Values.{Value}
 use Rattle.vf_model.specs.Values as values
 use Rattle.vf_model.specs.State.{Thread, entered}
@@ -11,8 +12,11 @@ use Rattle.vf_meaning.specs.Assertions.{ContractTree, Environment}
 use Rattle.vf_meaning.specs.Sorts.{AreOfSorts}
 use Rattle.vf_meaning.specs.Parts.{Part, nothing, IsSum}
 use Rattle.vf_meaning.specs.Satisfaction.{Satisfies}
+use Rattle.vf_meaning.specs.Kept.{IsSafe, Kept}
 use Rattle.vf_rules.specs.Types.{IsOfType, IsTypedPart}
-use Rattle.vf_rules.specs.Accept.{HasContract, IsAcceptedFunction}
+use Rattle.vf_rules.specs.States.{SymbolicState}
+use Rattle.vf_rules.specs.Consume.{Consume}
+use Rattle.vf_rules.specs.Accept.{all_of_it, call_store, HasContract, IsAcceptedFunction}
 use Rattle.vf_safety.specs.Safe.{Duty, Safe, Continues}
 
 -- values are of the types of parameters, one by one
@@ -51,3 +55,21 @@ AcceptedThreadsAreSafe =
     (e : Environment) (p : ProgramTree) → AreAccepted e p → (t number : ℕ) (f : FunctionTree) (k : ContractTree) (arguments : List Value) (names : Valuation) (own rest : Part)
     → rest ≡ nothing → MayCall e p t number f k arguments names rest own → (n : ℕ)
     → Safe e p t (record { contract = k; names = names }) n (entered number f arguments None ∷ []) own
+
+-- before its first step main has no locals and no chunks, and nothing is known but which name the thread has
+abbrev pub before_main : SymbolicState
+before_main = record { locals = []; names = call_store []; chunks = []; path = [] }
+
+-- A program is accepted: each of its functions that has a contract is; main has one and no parameters, and its precondition is consumed from nothing
+pub record IsAcceptedProgram (e : Environment) (p : ProgramTree) : Type 0 where
+  pub functions : AreAccepted e p
+  pub main : FunctionTree
+  pub is_main : slice_get p.functions p.main ≡ Some main
+  pub contract : ContractTree
+  pub has : HasContract e main contract
+  pub alone : main.signature.parameters ≡ []
+  pub begins : Consume e p contract.sorts all_of_it contract.requires_this (call_store []) before_main (λ s st. st.chunks ≡ [])
+
+-- every list of events of an accepted program is safe, and keeps what the program owes
+abbrev pub AcceptedProgramsAreSafe : Type 0
+AcceptedProgramsAreSafe = (e : Environment) (p : ProgramTree) → IsAcceptedProgram e p → (events : List Event) → IsSafe p events × Kept e p events

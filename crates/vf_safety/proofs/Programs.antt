@@ -1,0 +1,517 @@
+-- Runs of accepted programs of one thread: what stands of the state before each event, and the share-outs that it gives.
+use Rattle.std.proofs.Common.{◌≡◌, ◌≢◌, ℕ, zero, suc, ◌<◌, ◌≤◌, ◌+◌, pos, Bool, true, List, [], ◌∷◌, ◌++◌, length, map, take, slice_get, Option, Some, None, refl, sym, ap, subst, ◌∙◌, arith}
+use Rattle.std.specs.Prelude.{◌&&◌, is_none}
+use Rattle.std.specs.List.{fold, range_with_len}
+use Rattle.std.specs.FinMap as finite
+use Rattle.std.specs.Ordering.{nat_cmp}
+use Rattle.std.proofs.lemmas.Bool.{false≢true}
+use Rattle.vf_base.specs.declared.place.Place.{Place}
+use Rattle.vf_tree.specs.Core.{Identity, Signature, ExpressionTree, Call, CallPointer, FunctionTree, ProgramTree}
+use Rattle.vf_model.specs.declared.words.Event.{Event}
+use Rattle.vf_model.specs.declared.words.FaultKind.{FaultKind}
+use Rattle.vf_model.specs.Values.{Value}
+use Rattle.vf_model.specs.Values as values
+use Rattle.vf_model.specs.Memory.{Block, Cell, block_at}
+use Rattle.vf_model.specs.State.{Frame, Thread, End, State, entered}
+use Rattle.vf_model.specs.Acts.{Touch, Act, Touches, Waits, Faults, Goes, Allocates}
+use Rattle.vf_model.specs.Races.{TouchesCell, next_touch, touch_in, touch_unended}
+use Rattle.vf_model.specs.Steps.{act_by, next_act}
+use Rattle.vf_model.specs.Runs.{happens, after_unended, after, opening, main_frames, Fault}
+use Rattle.vf_model.specs.PreludeFunctions.{prelude_named}
+use Rattle.vf_meaning.specs.Fractions.{whole}
+use Rattle.vf_meaning.specs.Ghost.{Sort, Numbered, CurrentThread, Variable}
+use Rattle.vf_meaning.specs.Valuations.{Valuation}
+use Rattle.vf_meaning.specs.Assertions.{Environment}
+use Rattle.vf_meaning.specs.Sorts.{AreOfSorts}
+use Rattle.vf_meaning.specs.Parts.{Location, Part, nothing, IsSum}
+use Rattle.vf_meaning.specs.Fits.{Fits}
+use Rattle.vf_meaning.specs.Satisfaction.{Satisfies}
+use Rattle.vf_meaning.specs.ShareOuts.{ShareOut, SumsTo, Ended, IsHandleOf, location_in, OwnsFor, IsShareOut}
+use Rattle.vf_meaning.specs.Kept.{before, depth, IsAt, Returns, StartsWith, plain, joinable, Ensures, IsSafe, Kept}
+use Rattle.vf_meaning.proofs.Parts.{sums_turn, nothing_is_neutral, nothing_fits_empty, not_nought}
+use Rattle.vf_meaning.proofs.ShareOuts.{share_outs_exclude_races}
+use Rattle.vf_rules.specs.States.{ChunksMean, StandsFor}
+use Rattle.vf_rules.specs.Types.{IsTypedPart}
+use Rattle.vf_rules.specs.Laws.{StoreSorted}
+use Rattle.vf_rules.specs.Predicates.{store_of}
+use Rattle.vf_rules.specs.Accept.{all_of_it, call_store}
+use Rattle.vf_rules.proofs.Terms.{stored_own, stored_other}
+use Rattle.vf_rules.proofs.Consumes.{consumed}
+use Rattle.vf_rules.proofs.Opening.{completed, completed_means, completed_sorted}
+use Rattle.vf_safety.specs.Safe.{Duty, event_of, IsShared, IsShaped, Went, Secure, Safe}
+use Rattle.vf_safety.specs.Laws.{AreOfTypes, MayCall, before_main, IsAcceptedProgram, AcceptedProgramsAreSafe}
+use Rattle.vf_safety.proofs.Bodies.{nothing_left}
+use Rattle.vf_safety.proofs.Functions.{begins_mean, accepted_threads_are_safe}
+
+none_some : {A B : Type 0} {x : A} → None ≡ Some x → B
+none_some e = cc
+
+some_none : {A B : Type 0} {x : A} → Some x ≡ None → B
+some_none e = cc
+
+some_same : {A : Type 0} {x y : A} → Some x ≡ Some y → x ≡ y
+some_same e = cc
+
+cons_nil : {A B : Type 0} {x : A} {xs : List A} → x ∷ xs ≡ [] → B
+cons_nil e = cc
+
+-- ---- what a state is while one thread runs
+module _ (e : Environment) (p : ProgramTree) (duty : Duty) where
+  -- thread 0 is the only one, and has a part; with what was leaked it is all of the memory; and it is safe for m steps
+  record World (m : ℕ) (s : State) : Type 0 where
+    frames : Thread
+    own : Part
+    leaked : Part
+    all : Part
+    threads : s.threads ≡ frames ∷ []
+    sums : IsSum own leaked all
+    fits : Fits all s.memory
+    typed : IsTypedPart e p all
+    shaped : IsShaped p s.memory
+    unshared : (b : ℕ) → IsShared (block_at s.memory b) → ⊥
+    safe : s.end ≡ None → Safe e p 0 duty m frames own
+
+  went_fewer : (S R : Thread → Part → Type 0) → ((frames : Thread) (own : Part) → S frames own → R frames own) → (s new : State) (rest : Part) → Went e p 0 duty S s new rest → Went e p 0 duty R s new rest
+  went_fewer S R h s new rest w = record {
+    frames = w.frames;
+    own = w.own;
+    leaked = w.leaked;
+    others = w.others;
+    all = w.all;
+    given_up = w.given_up;
+    sums = w.sums;
+    fits = w.fits;
+    typed = w.typed;
+    shaped = w.shaped;
+    now = w.now;
+    alone = w.alone;
+    number = w.number;
+    unshared = w.unshared;
+    going = λ none. h w.frames w.own (w.going none);
+    leaves = w.leaves;
+  }
+
+  safe_fewer : (m : ℕ) (frames : Thread) (own : Part) → Safe e p 0 duty (suc m) frames own → Safe e p 0 duty m frames own
+  safe_fewer zero frames own h = tt
+  safe_fewer (suc m) [] own h = tt
+  safe_fewer (suc m) (frame ∷ callers) own h = λ s rest all going is sums fits typed shaped.
+      let secure = h s rest all going is sums fits typed shaped in
+      record {
+        faultless = secure.faultless;
+        owned = secure.owned;
+        direct = secure.direct;
+        unstarted = secure.unstarted;
+        goes = λ grant. went_fewer (Safe e p 0 duty (suc m)) (Safe e p 0 duty m) (safe_fewer m) s (after p s (event_of 0 grant)) rest (secure.goes grant);
+      }
+
+  -- the same in a state that is the same
+  abbrev at_same : (m : ℕ) (s new : State) → new ≡ s → World m s → World m new
+  at_same m s new is w = record {
+    frames = w.frames;
+    own = w.own;
+    leaked = w.leaked;
+    all = w.all;
+    threads = ap (λ z. z.threads) is ∙ w.threads;
+    sums = w.sums;
+    fits = subst (λ z. Fits w.all z.memory) (sym is) w.fits;
+    typed = w.typed;
+    shaped = subst (λ z. IsShaped p z.memory) (sym is) w.shaped;
+    unshared = subst (λ z. (b : ℕ) → IsShared (block_at z.memory b) → ⊥) (sym is) w.unshared;
+    safe = λ none. w.safe (sym (ap (λ z. z.end) is) ∙ none);
+  }
+
+  abbrev fewer_steps : (m : ℕ) (s : State) → World (suc m) s → World m s
+  fewer_steps m s w = record {
+    frames = w.frames;
+    own = w.own;
+    leaked = w.leaked;
+    all = w.all;
+    threads = w.threads;
+    sums = w.sums;
+    fits = w.fits;
+    typed = w.typed;
+    shaped = w.shaped;
+    unshared = w.unshared;
+    safe = λ none. safe_fewer m w.frames w.own (w.safe none);
+  }
+
+  -- ---- one event
+  record Next (m : ℕ) (s : State) (w : World (suc m) s) (event : Event) : Type 0 where
+    world : World m (after p s event)
+    unmoved : event.thread ≢ 0 → world.own ≡ w.own
+    leaves : event.thread ≡ 0 → (result : Option Value) → Returns p s 0 result → depth s 0 ≡ 1 → Ensures e duty.contract duty.names result world.own
+
+  going_of : (o : Option End) (b : Bool) → (is_none o && b) ≡ true → o ≡ None
+  going_of None b h = refl
+  going_of (Some end) b h = absurd (false≢true h)
+
+  returns_going : (s : State) (t : ℕ) (result : Option Value) → Returns p s t result → s.end ≡ None
+  returns_going s t result r = going_of s.end _ (r.at).steps
+
+  returns_in : (s : State) (result : Option Value) (frames : Thread) → slice_get s.threads 0 ≡ Some frames → Returns p s 0 result → frames ≡ [] → ⊥
+  returns_in s result frames is r none = cons_nil (some_same (sym (r.at).frames ∙ is) ∙ none)
+
+  first_thread : (m : ℕ) (s : State) → (w : World m s) → slice_get s.threads 0 ≡ Some w.frames
+  first_thread m s w = ap (λ z. slice_get z 0) w.threads
+
+  other_thread : (m : ℕ) (s : State) → World m s → (u : ℕ) → slice_get s.threads (suc u) ≡ None
+  other_thread m s w u = ap (λ z. slice_get z (suc u)) w.threads
+
+  other_waits : (m : ℕ) (s : State) → World m s → (u : ℕ) → next_act p s (suc u) ≡ Waits
+  other_waits m s w u = ap (act_by p s (suc u)) (other_thread m s w u)
+
+  -- an event that changes nothing
+  idle_next : (m : ℕ) (s : State) (w : World (suc m) s) (event : Event) → after p s event ≡ s → ((result : Option Value) → event.thread ≡ 0 → Returns p s 0 result → ⊥) → Next m s w event
+  idle_next m s w event same none = record { world = at_same m s (after p s event) same (fewer_steps m s w); unmoved = λ h. refl; leaves = λ first result r one. absurd (none result first r) }
+
+  one_thread : (xs : List Thread) (f : Thread) → length xs ≡ 1 → slice_get xs 0 ≡ Some f → xs ≡ f ∷ []
+  one_thread [] f long is = none_some is
+  one_thread (x ∷ []) f long is = ap (λ z. z ∷ []) (some_same is)
+  one_thread (x ∷ y ∷ ys) f long is = absurd (two_one (length ys) long)
+    where
+      two_one : (n : ℕ) → suc (suc n) ≡ 1 → ⊥
+      two_one n h = omega (arith, h)
+
+  step_next : (m : ℕ) (s : State) (w : World (suc m) s) (grant : ℕ) (frame : Frame) (callers : Thread) → s.end ≡ None → w.frames ≡ frame ∷ callers → Next m s w (event_of 0 grant)
+  step_next m s w grant frame callers going is =
+      let secure : Secure e p 0 duty (Safe e p 0 duty m) s w.own w.leaked = subst (λ z. Safe e p 0 duty (suc m) z w.own) is (w.safe going) s w.leaked w.all going (first_thread (suc m) s w ∙ ap Some is) w.sums w.fits w.typed w.shaped in
+      let went = secure.goes grant in
+      record {
+        world = record {
+          frames = went.frames;
+          own = went.own;
+          leaked = went.others;
+          all = went.all;
+          threads = one_thread _ went.frames (went.number ∙ ap length w.threads) went.now;
+          sums = went.sums;
+          fits = went.fits;
+          typed = went.typed;
+          shaped = went.shaped;
+          unshared = λ b shared. w.unshared b (subst IsShared (went.unshared b shared) shared);
+          safe = went.going;
+        };
+        unmoved = λ other. absurd (other refl);
+        leaves = λ first. went.leaves;
+      }
+
+  at_none : (m : ℕ) (s : State) (w : World (suc m) s) (grant : ℕ) (frames : Thread) → s.end ≡ None → w.frames ≡ frames → Next m s w (event_of 0 grant)
+  at_none m s w grant [] going is =
+      idle_next m s w (event_of 0 grant)
+      (ap (after_unended p s (event_of 0 grant)) going ∙ ap (happens s grant) (ap (act_by p s 0) (first_thread (suc m) s w ∙ ap Some is)))
+      (λ result first r. returns_in s result w.frames (first_thread (suc m) s w) r is)
+  at_none m s w grant (frame ∷ callers) going is = step_next m s w grant frame callers going is
+
+  at_thread : (m : ℕ) (s : State) (w : World (suc m) s) (t grant : ℕ) → s.end ≡ None → Next m s w (event_of t grant)
+  at_thread m s w zero grant going = at_none m s w grant w.frames going refl
+  at_thread m s w (suc u) grant going =
+      idle_next m s w (event_of (suc u) grant) (ap (after_unended p s (event_of (suc u) grant)) going ∙ ap (happens s grant) (other_waits (suc m) s w u)) (λ result first r. absurd (suc_zero first))
+    where
+      suc_zero : suc u ≡ 0 → ⊥
+      suc_zero h = cc
+
+  at_end : (m : ℕ) (s : State) (w : World (suc m) s) (event : Event) (o : Option End) → s.end ≡ o → Next m s w event
+  at_end m s w event None going = at_thread m s w event.thread event.grant going
+  at_end m s w event (Some end) ended =
+      idle_next m s w event (ap (after_unended p s event) ended) (λ result first r. some_none (sym ended ∙ returns_going s 0 result r))
+
+  next : (m : ℕ) (s : State) (w : World (suc m) s) (event : Event) → Next m s w event
+  next m s w event = at_end m s w event s.end refl
+
+  -- ---- lists of events
+  one_more : (s : State) (events : List Event) (k : ℕ) (event : Event) → slice_get events k ≡ Some event → fold (after p) s (take (suc k) events) ≡ after p (fold (after p) s (take k events)) event
+  one_more s [] k event is = none_some is
+  one_more s (x ∷ xs) zero event is = ap (after p s) (some_same is)
+  one_more s (x ∷ xs) (suc k) event is = one_more (after p s x) xs k event is
+
+  no_more : (s : State) (events : List Event) (k : ℕ) → slice_get events k ≡ None → fold (after p) s (take (suc k) events) ≡ fold (after p) s (take k events)
+  no_more s [] zero is = refl
+  no_more s [] (suc k) is = refl
+  no_more s (x ∷ xs) zero is = some_none is
+  no_more s (x ∷ xs) (suc k) is = no_more (after p s x) xs k is
+
+  within : {A : Type 0} (xs : List A) (k : ℕ) (x : A) → slice_get xs k ≡ Some x → k < length xs
+  within [] k x is = none_some is
+  within (y ∷ ys) zero x is = omega arith
+  within (y ∷ ys) (suc k) x is = let l = within ys k x is in omega (arith, l)
+
+  -- what stands before the event of a number, with steps enough for all that are left
+  record Before (events : List Event) (k : ℕ) : Type 0 where
+    steps : ℕ
+    enough : length events < k + steps
+    world : World steps (before p events k)
+
+  -- an event moves on
+  record Moved (events : List Event) (k : ℕ) (a : Before events k) (event : Event) (b : Before events (suc k)) : Type 0 where
+    unmoved : event.thread ≢ 0 → (b.world).own ≡ (a.world).own
+    leaves : event.thread ≡ 0 → (result : Option Value) → Returns p (before p events k) 0 result → depth (before p events k) 0 ≡ 1 → Ensures e duty.contract duty.names result (b.world).own
+
+  too_few : (n k : ℕ) → k < n → n < k + 0 → ⊥
+  too_few n k a b = omega (arith, a, b)
+
+  still_enough : (n k m : ℕ) → n < k + suc m → n < suc k + m
+  still_enough n k m h = omega (arith, h)
+
+  more_enough : (n k m : ℕ) → n < k + m → n < suc k + m
+  more_enough n k m h = omega (arith, h)
+
+  moves : (events : List Event) (k : ℕ) (event : Event) → slice_get events k ≡ Some event → (steps : ℕ) (enough : length events < k + steps) (world : World steps (before p events k))
+      → (b : Before events (suc k)) × Moved events k (record { steps = steps; enough = enough; world = world }) event b
+  moves events k event is zero enough world = absurd (too_few (length events) k (within events k event is) enough)
+  moves events k event is (suc m) enough world =
+      let n = next m (before p events k) world event in (
+        record { steps = m; enough = still_enough (length events) k m enough; world = at_same m (after p (before p events k) event) (before p events (suc k)) (one_more (opening p) events k event is) n.world },
+        record { unmoved = n.unmoved; leaves = n.leaves },
+      )
+
+  abbrev advance : (events : List Event) (k : ℕ) (o : Option Event) → slice_get events k ≡ o → Before events k → Before events (suc k)
+  advance events k None is a = record { steps = a.steps; enough = more_enough (length events) k a.steps a.enough; world = at_same a.steps (before p events k) (before p events (suc k)) (no_more (opening p) events k is) a.world }
+  advance events k (Some event) is a = (moves events k event is a.steps a.enough a.world).0
+
+  advance_moved : (events : List Event) (k : ℕ) (o : Option Event) (is : slice_get events k ≡ o) (a : Before events k) (event : Event) → o ≡ Some event → Moved events k a event (advance events k o is a)
+  advance_moved events k None is a event same = none_some same
+  advance_moved events k (Some x) is a event same = subst (λ z. Moved events k a z (advance events k (Some x) is a)) (some_same same) (moves events k x is a.steps a.enough a.world).1
+
+  abbrev worlds : (first : (n : ℕ) → World n (opening p)) (events : List Event) (k : ℕ) → Before events k
+  worlds first events zero = record { steps = suc (length events); enough = omega arith; world = first (suc (length events)) }
+  worlds first events (suc k) = advance events k (slice_get events k) refl (worlds first events k)
+
+  worlds_move : (first : (n : ℕ) → World n (opening p)) (events : List Event) (k : ℕ) (event : Event) → slice_get events k ≡ Some event → Moved events k (worlds first events k) event (worlds first events (suc k))
+  worlds_move first events k event is = advance_moved events k (slice_get events k) refl (worlds first events k) event is
+
+  -- ---- share-outs
+  abbrev thread_part : Part → ℕ → Part
+  thread_part own zero = own
+  thread_part own (suc u) = nothing
+
+  abbrev share_out : (m : ℕ) (s : State) → World m s → ShareOut
+  share_out m s w = record { threads = thread_part w.own; mutexes = λ b. nothing; leaked = w.leaked }
+
+  nothings : (bs : List ℕ) → SumsTo (map (λ b. nothing) bs) nothing
+  nothings [] = refl
+  nothings (b ∷ bs) = (nothing, nothings bs, nothing_is_neutral nothing)
+
+  not_waits_touch : (touch : Touch) → touch_in Waits ≡ Some touch → ⊥
+  not_waits_touch touch h = none_some h
+
+  touched_act : (a : Act) (touch : Touch) → touch_in a ≡ Some touch → (new : State) × (a ≡ Touches touch new)
+  touched_act (Goes new) touch h = none_some h
+  touched_act (Touches x new) touch h = (new, ap (λ z. Touches z new) (some_same h))
+  touched_act (Allocates denied granted) touch h = none_some h
+  touched_act Waits touch h = none_some h
+  touched_act (Faults kind place) touch h = none_some h
+
+  touch_going : (s : State) (t : ℕ) (touch : Touch) (o : Option End) → touch_unended p s t o ≡ Some touch → (o ≡ None) × (touch_in (next_act p s t) ≡ Some touch)
+  touch_going s t touch None h = (refl, h)
+  touch_going s t touch (Some end) h = none_some h
+
+  secure_of : (m : ℕ) (s : State) (w : World (suc m) s) (frame : Frame) (callers : Thread) → s.end ≡ None → w.frames ≡ frame ∷ callers → Secure e p 0 duty (Safe e p 0 duty m) s w.own w.leaked
+  secure_of m s w frame callers going is =
+      subst (λ z. Safe e p 0 duty (suc m) z w.own) is (w.safe going) s w.leaked w.all going (first_thread (suc m) s w ∙ ap Some is) w.sums w.fits w.typed w.shaped
+
+  first_waits : (m : ℕ) (s : State) (w : World m s) → w.frames ≡ [] → next_act p s 0 ≡ Waits
+  first_waits m s w is = ap (act_by p s 0) (first_thread m s w ∙ ap Some is)
+
+  first_access : (m : ℕ) (s : State) (w : World (suc m) s) (frames : Thread) → w.frames ≡ frames → (touch : Touch) (c : Cell) (l : Location) → s.end ≡ None → touch_in (next_act p s 0) ≡ Some touch → TouchesCell s.memory touch c
+      → location_in (block_at s.memory c.block) c ≡ Some l → OwnsFor touch w.own l
+  first_access m s w [] is touch c l going h touches there = absurd (not_waits_touch touch (sym (ap touch_in (first_waits (suc m) s w is)) ∙ h))
+  first_access m s w (frame ∷ callers) is touch c l going h touches there =
+      let act = touched_act (next_act p s 0) touch h in
+      (secure_of m s w frame callers going is).owned touch act.0 c l act.1 touches there
+
+  accesses : (m : ℕ) (s : State) (w : World (suc m) s) (t : ℕ) (touch : Touch) (c : Cell) (l : Location) → next_touch p s t ≡ Some touch → TouchesCell s.memory touch c → location_in (block_at s.memory c.block) c ≡ Some l
+      → OwnsFor touch (thread_part w.own t) l
+  accesses m s w zero touch c l next touches there =
+      let going = touch_going s 0 touch s.end next in
+      first_access m s w w.frames refl touch c l going.0 going.1 touches there
+  accesses m s w (suc u) touch c l next touches there =
+      absurd (not_waits_touch touch (sym (ap touch_in (other_waits (suc m) s w u)) ∙ (touch_going s (suc u) touch s.end next).1))
+
+  is_share_out : (m : ℕ) (s : State) (w : World (suc m) s) → IsShareOut e p s (share_out (suc m) s w)
+  is_share_out m s w = record {
+    all = w.all;
+    sums = subst (λ z. SumsTo (w.leaked ∷ (map (thread_part w.own) (range_with_len 0 (length z)) ++ map (λ b. nothing) (finite.keys s.memory))) w.all) (sym w.threads)
+        (w.own, (nothing, nothings (finite.keys s.memory), sums_turn nothing w.own w.own (nothing_is_neutral w.own)), sums_turn w.own w.leaked w.all w.sums);
+    fits = w.fits;
+    joined = unjoined;
+    held = λ b other. refl;
+    free = λ b q is positive. absurd (w.unshared b (subst IsShared (sym is) tt));
+    left = λ b t run argument info is ended positive. absurd (w.unshared b (subst IsShared (sym is) tt));
+    access = accesses m s w;
+  }
+    where
+      unjoined : (t : ℕ) → t ≢ 0 → Ended s t → ((b : ℕ) → IsHandleOf s b t → ⊥) → thread_part w.own t ≡ nothing
+      unjoined zero other ended none = absurd (other refl)
+      unjoined (suc u) other ended none = refl
+
+  share_out_before : (events : List Event) (k : ℕ) → k ≤ length events → (a : Before events k) → IsShareOut e p (before p events k) (share_out a.steps (before p events k) a.world)
+  share_out_before events k l a = by_steps a.steps a.enough a.world
+    where
+      none_left : k ≤ length events → length events < k + 0 → ⊥
+      none_left l h = omega (arith, l, h)
+
+      by_steps : (steps : ℕ) → length events < k + steps → (w : World steps (before p events k)) → IsShareOut e p (before p events k) (share_out steps (before p events k) w)
+      by_steps zero enough w = absurd (none_left l enough)
+      by_steps (suc m) enough w = is_share_out m (before p events k) w
+
+  -- ---- what cannot happen
+  calls_no_pointer : (m : ℕ) (s : State) (w : World (suc m) s) (t : ℕ) (frames : Thread) → w.frames ≡ frames → (f : FunctionTree) (frame : Frame) (callers : Thread) (target : Option ℕ) (pointer : ExpressionTree) (signature : Signature) (operands : List ExpressionTree) (place : Place) (following : ℕ)
+      → IsAt p s t f frame callers (CallPointer target pointer signature operands place following) → ⊥
+  calls_no_pointer m s w zero [] is f frame callers target pointer signature operands place following at = cons_nil (some_same (sym at.frames ∙ first_thread (suc m) s w) ∙ is)
+  calls_no_pointer m s w zero (x ∷ xs) is f frame callers target pointer signature operands place following at =
+      (secure_of m s w x xs (going_of s.end _ at.steps) is).direct f frame callers target pointer signature operands place following at
+  calls_no_pointer m s w (suc u) frames is f frame callers target pointer signature operands place following at = none_some (sym (other_thread (suc m) s w u) ∙ at.frames)
+
+  calls_unknown : (m : ℕ) (s : State) (w : World (suc m) s) (t : ℕ) (frames : Thread) → w.frames ≡ frames → (f : FunctionTree) (frame : Frame) (callers : Thread) (target : Option ℕ) (g : Identity) (operands : List ExpressionTree) (place : Place) (following : ℕ)
+      → IsAt p s t f frame callers (Call target g operands place following) → prelude_named g ≡ None
+  calls_unknown m s w zero [] is f frame callers target g operands place following at = cons_nil (some_same (sym at.frames ∙ first_thread (suc m) s w) ∙ is)
+  calls_unknown m s w zero (x ∷ xs) is f frame callers target g operands place following at =
+      (secure_of m s w x xs (going_of s.end _ at.steps) is).unstarted f frame callers target g operands place following at
+  calls_unknown m s w (suc u) frames is f frame callers target g operands place following at = none_some (sym (other_thread (suc m) s w u) ∙ at.frames)
+
+  starts_known : (g type : Identity) → StartsWith g type → prelude_named g ≡ None → ⊥
+  starts_known g type plain h = some_none h
+  starts_known g type joinable h = some_none h
+
+  waits_no_fault : (kind : FaultKind) (place : Place) → Waits ≡ Faults kind place → ⊥
+  waits_no_fault kind place h = cc
+
+  no_fault : (m : ℕ) (s : State) (w : World (suc m) s) (t : ℕ) (frames : Thread) → w.frames ≡ frames → (kind : FaultKind) (place : Place) → Fault p s t kind place → ⊥
+  no_fault m s w zero [] is kind place fault = waits_no_fault kind place (sym (first_waits (suc m) s w is) ∙ fault.faults)
+  no_fault m s w zero (x ∷ xs) is kind place fault = (secure_of m s w x xs fault.going is).faultless kind place fault.faults
+  no_fault m s w (suc u) frames is kind place fault = waits_no_fault kind place (sym (other_waits (suc m) s w u) ∙ fault.faults)
+
+  -- a world with steps left, by how many events are left
+  left_steps : (events : List Event) (k : ℕ) → k ≤ length events → (a : Before events k) → (m : ℕ) × World (suc m) (before p events k)
+  left_steps events k l a = by_steps a.steps a.enough a.world
+    where
+      none_left : k ≤ length events → length events < k + 0 → ⊥
+      none_left l h = omega (arith, l, h)
+
+      by_steps : (steps : ℕ) → length events < k + steps → World steps (before p events k) → (m : ℕ) × World (suc m) (before p events k)
+      by_steps zero enough w = absurd (none_left l enough)
+      by_steps (suc m) enough w = (m, w)
+
+  is_safe : (first : (n : ℕ) → World n (opening p)) (events : List Event) → IsSafe p events
+  is_safe first events = record {
+    faultless = λ k t kind place l fault. let w = left_steps events k l (worlds first events k) in no_fault w.0 (before p events k) w.1 t (w.1).frames refl kind place fault;
+    raceless = λ k l race. share_outs_exclude_races e p (before p events k) _ (share_out_before events k l (worlds first events k)) race;
+  }
+
+-- ---- what main begins with
+record Begun (e : Environment) (p : ProgramTree) (a : IsAcceptedProgram e p) : Type 0 where
+  names : Valuation
+  thread : names CurrentThread ≡ values.Number (pos 0)
+  of_sorts : AreOfSorts e names (a.contract).sorts
+  required : Satisfies e whole (a.contract).requires_this names nothing
+
+no_names : (e : Environment) (v : Valuation) (sorts : List Sort) → StoreSorted e v sorts (call_store [])
+no_names e v sorts k so t is known = none_some (sym (stored_other (store_of []) CurrentThread (Numbered k) (Variable CurrentThread) clash) ∙ is)
+  where
+    clash : Numbered k ≡ CurrentThread → ⊥
+    clash h = cc
+
+all_noughts : Valuation
+all_noughts x = values.Number (pos 0)
+
+begun : (e : Environment) (p : ProgramTree) (a : IsAcceptedProgram e p) → Begun e p a
+unfolding all_noughts
+begun e p a =
+    let v = all_noughts in
+    let stands : StandsFor e v before_main [] v nothing = record { path = tt; locals_mean = tt; names_mean = begins_mean e v 0; chunks_mean = refl } in
+    let c = consumed e p (a.contract).sorts all_of_it whole [] v (a.contract).requires_this (call_store []) before_main (λ s st. st.chunks ≡ []) a.begins v nothing stands (no_names e v (a.contract).sorts) refl in
+    let left_none : c.left ≡ nothing = subst (λ cs. ChunksMean e c.under cs c.left) c.holds (c.stands).chunks_mean in
+    let off_is = nothing_left c.off c.left nothing left_none c.sums in
+    let names = completed e c.under (a.contract).sorts (a.has).inhabited c.store in
+    let means = completed_means e c.under (a.contract).sorts (a.has).inhabited c.store in
+    let own = stored_own (store_of []) CurrentThread (Variable CurrentThread) in
+    record {
+      names = names;
+      thread = sym (means CurrentThread (Variable CurrentThread) (c.grows CurrentThread (Variable CurrentThread) own)) ∙ c.stays CurrentThread (Variable CurrentThread) own;
+      of_sorts = completed_sorted e c.under (a.contract).sorts (a.has).inhabited c.store c.sorted;
+      required = subst (Satisfies e whole (a.contract).requires_this names) off_is (c.depth, c.satisfies names means);
+    }
+
+nothing_typed : (e : Environment) (p : ProgramTree) → IsTypedPart e p nothing
+unfolding nothing
+nothing_typed e p l c positive = absurd (not_nought (nothing l c) refl positive)
+
+abbrev duty_of : (e : Environment) (p : ProgramTree) → IsAcceptedProgram e p → Duty
+duty_of e p a = record { contract = a.contract; names = (begun e p a).names }
+
+may_begin : (e : Environment) (p : ProgramTree) (a : IsAcceptedProgram e p) → MayCall e p 0 p.main a.main a.contract [] (begun e p a).names nothing nothing
+may_begin e p a = record {
+  function = a.is_main;
+  contract = a.has;
+  types = subst (λ z. AreOfTypes z []) (sym a.alone) tt;
+  begins = λ j w h. none_some h;
+  thread = (begun e p a).thread;
+  of_sorts = (begun e p a).of_sorts;
+  passed = nothing;
+  required = (begun e p a).required;
+  typed = nothing_typed e p;
+  sums = nothing_is_neutral nothing;
+}
+
+no_share : (o : Option Block) → o ≡ None → IsShared o → ⊥
+no_share o h shared = subst IsShared h shared
+
+abbrev opening_world : (e : Environment) (p : ProgramTree) (a : IsAcceptedProgram e p) (n : ℕ) → World e p (duty_of e p a) n (opening p)
+opening_world e p a n = record {
+  frames = entered p.main a.main [] None ∷ [];
+  own = nothing;
+  leaked = nothing;
+  all = nothing;
+  threads = ap (λ z. main_frames p.main z ∷ []) a.is_main;
+  sums = nothing_is_neutral nothing;
+  fits = nothing_fits_empty;
+  typed = nothing_typed e p;
+  shaped = λ b g cells is. none_some (sym (finite.get-empty nat_cmp b) ∙ is);
+  unshared = λ b shared. no_share (block_at (opening p).memory b) (finite.get-empty nat_cmp b) shared;
+  safe = λ none. accepted_threads_are_safe e p a.functions 0 p.main a.main a.contract [] (begun e p a).names nothing nothing refl (may_begin e p a) n;
+}
+
+-- ---- what an accepted program keeps
+module _ (e : Environment) (p : ProgramTree) (a : IsAcceptedProgram e p) (events : List Event) where
+  abbrev at_event : (k : ℕ) → Before e p (duty_of e p a) events k
+  at_event k = worlds e p (duty_of e p a) (opening_world e p a) events k
+
+  moved_at : (k : ℕ) (event : Event) → slice_get events k ≡ Some event → Moved e p (duty_of e p a) events k (at_event k) event (at_event (suc k))
+  moved_at k event is = worlds_move e p (duty_of e p a) (opening_world e p a) events k event is
+
+  abbrev out_at : ℕ → ShareOut
+  out_at k = share_out e p (duty_of e p a) (at_event k).steps (before p events k) (at_event k).world
+
+  inside : (k : ℕ) (event : Event) → slice_get events k ≡ Some event → k ≤ length events
+  inside k event is = let l = within e p (duty_of e p a) events k event is in omega (arith, l)
+
+  kept_threads : (k : ℕ) (event : Event) → slice_get events k ≡ Some event → (u : ℕ) → u ≢ event.thread → (out_at (suc k)).threads u ≡ (out_at k).threads u
+  kept_threads k event is zero other = (moved_at k event is).unmoved (λ h. other (sym h))
+  kept_threads k event is (suc u) other = refl
+
+  kept : Kept e p events
+  kept = record {
+    outs = out_at;
+    share_outs = λ k l. share_out_before e p (duty_of e p a) events k l (at_event k);
+    main = a.main;
+    is_main = a.is_main;
+    contract = a.contract;
+    of_main = (a.has).known;
+    under = (begun e p a).names;
+    current = (begun e p a).thread;
+    sorts = (begun e p a).of_sorts;
+    begins_empty = refl;
+    required = (begun e p a).required;
+    unleaked = refl;
+    changes = λ k event is. record { threads = λ u other known same. kept_threads k event is u other; mutexes = λ b same. refl };
+    calls = λ k event call is h.
+        let w = left_steps e p (duty_of e p a) events k (inside k event is) (at_event k) in
+        absurd (calls_no_pointer e p (duty_of e p a) w.0 (before p events k) w.1 event.thread (w.1).frames refl h.f h.frame h.callers h.target h.pointer h.signature h.operands h.place h.next h.at);
+    starts = λ k event call is h.
+        let w = left_steps e p (duty_of e p a) events k (inside k event is) (at_event k) in
+        absurd (starts_known e p (duty_of e p a) h.starter call.type h.type
+        (calls_unknown e p (duty_of e p a) w.0 (before p events k) w.1 event.thread (w.1).frames refl h.f h.frame h.callers h.target h.starter h.operands h.place h.next h.at));
+    ensured = λ j event result is first returns last. (moved_at j event is).leaves first result returns last;
+  }
+
+pub accepted_programs_are_safe : AcceptedProgramsAreSafe
+accepted_programs_are_safe e p a events = (is_safe e p (duty_of e p a) (opening_world e p a) events, kept e p a events)
