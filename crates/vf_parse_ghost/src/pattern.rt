@@ -87,6 +87,7 @@ fn amount(cursor: &mut Cursor) -> Result<Amount, Stop>
     Ok(Amount::Product(first, links))
 }
 
+/// A share.
 #[tactic(auto, unfolding(vf_syntax::specs::Assertions::share))]
 pub fn share(cursor: &mut Cursor) -> Result<Share, Stop>
     ensures { IfOk result (λ s. share s cursor.old.left.now ≡ Some cursor.new.left.now) }
@@ -108,6 +109,7 @@ pub fn optional_share(cursor: &mut Cursor) -> Result<Option<Share>, Stop>
     Ok(Some(share))
 }
 
+/// A pattern with at most so much nesting.
 #[tactic(auto, unfolding(vf_syntax::specs::Assertions::pattern))]
 pub fn pattern(cursor: &mut Cursor, depth: u32) -> Result<Pattern, Stop>
     ensures spelled { IfOk result (λ p. pattern p cursor.old.left.now ≡ Some cursor.new.left.now) }
