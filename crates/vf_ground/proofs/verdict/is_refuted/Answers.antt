@@ -1,4 +1,4 @@
-use Rattle.std.proofs.Common.{◌≡◌, refl, sym, ◌∙◌, subst, List, IsTrue, ◌↔◌}
+use Rattle.std.proofs.Common.{◌∙◌, subst, List, IsTrue, ◌↔◌}
 use Rattle.vf_table.specs.declared.node.Node.{Node}
 use Rattle.vf_refute.specs.Closure.{Conflict}
 use Rattle.vf_ground.proofs.Verdicts.{final_sound, final_complete}
