@@ -1,6 +1,6 @@
 -- The matrix's invariant, at each way_over that a bound is added.
-use Rattle.std.proofs.Common.{◌≡◌, ℕ, zero, suc, ◌+◌, ◌*◌, ◌/◌, ◌%◌, ◌<◌, ◌≤◌, ◌^◌, ◌⊎◌, inl, inr, List, [], ◌∷◌, ◌++◌, length, get_or, Some, None, refl, sym, ◌∙◌, ap, subst, arith, Bool, true, false, eqb, IsTrue, IsFalse}
-use Rattle.std.specs.Prelude.{ℤ, pos, negsuc, neg_ℤ, ◌+ℤ◌, ◌≤ℤ◌, ◌<ℤ◌, Contains, Option, if◌then◌else◌, MatchOption, ◌==◌}
+use Rattle.std.proofs.Common.{◌≡◌, ℕ, zero, suc, ◌+◌, ◌*◌, ◌/◌, ◌%◌, ◌<◌, ◌≤◌, ◌^◌, ◌⊎◌, inl, inr, List, [], ◌∷◌, ◌++◌, length, get_or, Some, None, refl, sym, ◌∙◌, ap, subst, arith, Bool, true, false, eqb}
+use Rattle.std.specs.Prelude.{ℤ, pos, ◌+ℤ◌, ◌≤ℤ◌, ◌<ℤ◌, Contains, Option, if◌then◌else◌, MatchOption, ◌==◌}
 use Rattle.std.proofs.lemmas.Int.{ints, clamps, by_lt_z}
 use Rattle.std.proofs.lemmas.List.Sums.{sum_by-cons}
 use Rattle.std.specs.Prelude.{count_by, cond}
@@ -12,12 +12,11 @@ use Rattle.std.proofs.lemmas.List.{get_or_default}
 use Rattle.std.proofs.Math.Seq.{take-append_seam}
 use Rattle.std.proofs.Common.{take}
 use Rattle.std.proofs.Math.ListN.{get_or-eq_default}
-use Rattle.std.proofs.Math.Decide.{ℕ_discrete}
-use borrow.Author.Tests.{eqb-true, eqb-false, eq-eqb}
+use borrow.Author.Tests.{eqb-true, eq-eqb}
 use Rattle.vf_arith.specs.declared.bounds.Edge.{Edge}
 use Rattle.vf_arith.specs.Paths.{Path, path_none, path_edge, IsLeast, HasNegativeCycle, IsSmall}
 use Rattle.vf_arith.specs.Matrices.{IsUnder, lesser, over_edge, entry, distance, is_above, AreDistances, IsMatrix, AreSmall}
-use Rattle.vf_arith.proofs.Distances.{join, more, is_under, at_most, no_cycle, distances_more}
+use Rattle.vf_arith.proofs.Distances.{more, is_under, at_most, no_cycle, distances_more}
 use Rattle.vf_arith.proofs.Simplified.{distances_small}
 
 -- what is in a row of a matrix of distances is small

@@ -1,6 +1,6 @@
 -- A chain that visits no point twice: with no cycle below 0 there is one below each chain, so least sums are small.
-use Rattle.std.proofs.Common.{◌≡◌, ℕ, zero, suc, ◌+◌, ◌*◌, ◌<◌, ◌≤◌, ◌⊎◌, inl, inr, List, [], ◌∷◌, ◌++◌, length, Some, refl, sym, ◌∙◌, ap, subst, arith, Bool, true, false, eqb}
-use Rattle.std.specs.Prelude.{ℤ, pos, negsuc, neg_ℤ, ◌+ℤ◌, ◌≤ℤ◌, ◌<ℤ◌, Contains, Option}
+use Rattle.std.proofs.Common.{◌≡◌, ℕ, ◌*◌, ◌<◌, ◌≤◌, ◌⊎◌, inl, inr, List, [], ◌∷◌, length, Some, refl, sym, subst, arith, Bool, true, false, eqb}
+use Rattle.std.specs.Prelude.{ℤ, pos, ◌+ℤ◌, ◌≤ℤ◌, Contains, Option}
 use Rattle.std.specs.List.{list_any}
 use Rattle.std.specs.Prelude.{◌||◌}
 use Rattle.std.proofs.Math.Nat.{mul-le-mul_right}
@@ -11,7 +11,7 @@ use Rattle.std.proofs.lemmas.Int.{ints}
 use Rattle.vf_arith.specs.declared.bounds.Edge.{Edge}
 use Rattle.vf_arith.specs.Paths.{Path, path_none, path_edge, IsSmall}
 use Rattle.vf_arith.specs.Matrices.{AreDistances, IsUnder}
-use Rattle.vf_arith.proofs.Distances.{join, at_most, no_cycle}
+use Rattle.vf_arith.proofs.Distances.{at_most, no_cycle}
 
 same_or : (p x : ℕ) → (p ≡ x) ⊎ (eqb p x ≡ false)
 same_or p x = go (eqb p x) refl

@@ -6,5 +6,7 @@
 
 mod bounds;
 mod matrix;
+#[cfg(test)]
+mod tests;
 
 pub use bounds::{Bounds, Edge, is_small};

@@ -1,20 +1,19 @@
 -- A valuation that meets the facts meets each equality and each bound of their closure.
 use Rattle.std.proofs.Common.{◌≡◌, ◌≢◌, ℕ, zero, suc, List, ◌∷◌, [], ◌++◌, refl, sym, ◌∙◌, ap, subst, arith, inl, inr, ◌⊎◌}
-use Rattle.std.specs.Prelude.{ℤ, pos, negsuc, ◌+ℤ◌, ◌-ℤ◌, neg_ℤ, ◌≤ℤ◌, ◌<ℤ◌, Contains, Bool, true, false}
+use Rattle.std.specs.Prelude.{ℤ, pos, ◌+ℤ◌, ◌-ℤ◌, neg_ℤ, ◌≤ℤ◌, Bool, true, false}
 use Rattle.std.proofs.lemmas.Int.{ints}
 use Rattle.std.proofs.Math.IntN.{ℤ_discrete}
 use Rattle.std.proofs.lemmas.List.Elements.{Contains-append_cases}
-use Rattle.vf_tree.specs.Core.{Identity}
 use Rattle.vf_model.specs.Values.{Value, Values, none, more, number_of}
 use Rattle.vf_model.specs.Values as values
 use Rattle.vf_meaning.specs.Valuations.{Valuation, is_same}
 use Rattle.vf_meaning.specs.GhostValues.{Interpretation}
 use Rattle.vf_meaning.proofs.Values.{tells_values}
-use Rattle.vf_closure.specs.Terms.{Kind, Integer, Other, Head, Number, Truth, Null, Function, Constructor, Plus, Term, Terms, term, no_terms, and_term, number, plus, kind_of, IsAt, here, further_on}
+use Rattle.vf_closure.specs.Terms.{Kind, Integer, Other, Head, Constructor, Term, Terms, term, kind_of, IsAt, here, further_on}
 use Rattle.vf_closure.specs.Values.{of_kind, applied, value, all_values}
 use Rattle.vf_closure.specs.Literals.{Literal, Equal, NotEqual, AtMost, Difference, NotDifference, False, denied, IsInteger, Holds, Meets}
-use Rattle.vf_closure.specs.Closure.{Unfoldings, AreClashing, two_constructors, two_numbers, two_truths, two_functions, null_and_function, Same, given, same_self, same_back, same_through, congruent, injective, squeezed, unfolds, unfolds_case, AllSame, no_more, one_more, Bound, most, difference_up, difference_down, still, weaker, chain, sum_up, sum_down, number_up, number_down, level, Conflict, below_itself, clash, denied_equality, denied_difference, falsehood, IsRefuted}
-use Rattle.vf_closure.specs.Laws.{KeepValues, Entails, RefutationsAreSound}
+use Rattle.vf_closure.specs.Closure.{Unfoldings, AreClashing, two_constructors, two_numbers, two_truths, two_functions, null_and_function, Same, given, same_self, same_back, same_through, congruent, injective, squeezed, unfolds, unfolds_case, AllSame, no_more, one_more, Bound, most, difference_up, difference_down, still, weaker, chain, sum_up, sum_down, number_up, number_down, level, Conflict, below_itself, clash, denied_equality, denied_difference, falsehood}
+use Rattle.vf_closure.specs.Laws.{KeepValues, RefutationsAreSound}
 
 of_integer : (k : Kind) (w : Value) → k ≡ Integer → of_kind k w ≡ values.Number (number_of (of_kind k w))
 of_integer Integer w e = refl

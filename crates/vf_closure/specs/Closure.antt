@@ -1,7 +1,7 @@
 -- The closure of a question, with fixpoints unfolded to a depth, and its plain refutations.
-use Rattle.std.specs.Prelude.{◌≡◌, ◌≢◌, ℕ, zero, suc, ◌<◌, ℤ, pos, negsuc, ◌+ℤ◌, neg_ℤ, ◌≤ℤ◌, Bool, List, [], ◌++◌, Contains, Option, Some, None}
+use Rattle.std.specs.Prelude.{◌≡◌, ◌≢◌, ℕ, zero, suc, ◌<◌, ℤ, pos, negsuc, ◌+ℤ◌, neg_ℤ, ◌≤ℤ◌, Bool, List, ◌++◌, Contains, Option, Some, None}
 use Rattle.vf_tree.specs.Core.{Identity}
-use Rattle.vf_closure.specs.Terms.{Head, Number, Truth, Null, Function, Constructor, Plus, Term, Terms, term, no_terms, and_term, number, plus, count, IsAt, IsWithin}
+use Rattle.vf_closure.specs.Terms.{Head, Number, Truth, Null, Function, Constructor, Term, Terms, term, no_terms, and_term, number, plus, count, IsAt, IsWithin}
 use Rattle.vf_closure.specs.Literals.{Literal, Equal, NotEqual, AtMost, Difference, NotDifference, False, denied, compares, IsInteger}
 
 -- What the definitions of a unit give to applications of fixpoints: the body of one without a switch; the argument that one with a switch goes by; and the body of its case for a constructor's term. All in normal form

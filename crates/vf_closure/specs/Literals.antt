@@ -3,7 +3,7 @@ use Rattle.std.specs.Prelude.{◌≡◌, ◌≢◌, ℤ, pos, ◌+ℤ◌, ◌-�
 use Rattle.vf_model.specs.Values.{number_of}
 use Rattle.vf_meaning.specs.Valuations.{Valuation}
 use Rattle.vf_meaning.specs.GhostValues.{Interpretation}
-use Rattle.vf_closure.specs.Terms.{Kind, Integer, Head, Term, Terms, term, kind_of}
+use Rattle.vf_closure.specs.Terms.{Integer, Term, term, kind_of}
 use Rattle.vf_closure.specs.Values.{value}
 
 -- two terms are equal, or not; the first less the second is at most a number, is it, or is not it; and what nothing meets

@@ -1,6 +1,5 @@
 -- The value of a term.
-use Rattle.std.specs.Prelude.{ℕ, ℤ, pos, ◌+ℤ◌, ◌*ℤ◌, not, ◌&&◌, ◌||◌, cond, List, [], ◌∷◌, Option, Some, None}
-use Rattle.vf_tree.specs.Core.{Identity}
+use Rattle.std.specs.Prelude.{ℤ, pos, ◌+ℤ◌, ◌*ℤ◌, not, ◌&&◌, ◌||◌, cond, List, ◌∷◌, Option, Some, None}
 use Rattle.vf_model.specs.Values.{Dyadic, Value, Values, none, more, number_of}
 use Rattle.vf_model.specs.Values as values
 use Rattle.vf_meaning.specs.Valuations.{Valuation, no_value, value_at, is_true, fraction_in, further}

@@ -4,6 +4,11 @@
 //! public functions with an empty body, each of which has a law as its contract.
 #![tactic(auto)]
 
+mod examples;
 mod laws;
 
-pub use laws::refutations_are_sound;
+pub use examples::{
+    does_not_refute_symbols, refutes_by_a_chain, refutes_by_a_squeeze, refutes_by_congruence,
+    refutes_by_injectivity, refutes_by_unfolding,
+};
+pub use laws::{refutations_are_sound, refutations_entail, unfoldings_are_enough};

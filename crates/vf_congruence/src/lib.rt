@@ -7,5 +7,7 @@
 
 mod classes;
 mod joining;
+#[cfg(test)]
+mod tests;
 
 pub use classes::Classes;

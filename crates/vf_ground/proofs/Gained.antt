@@ -105,11 +105,10 @@ number_one nodes a c d p q = let e = p.1 in let f = q.1 in let i : p.0 ≡ q.0 =
 
 -- and one sum at most
 pub sum_one : (nodes : List Node) (a q r : ℕ) (c d : ℤ) → IsPlus nodes a q c → IsPlus nodes a r d → (q ≡ r) × (c ≡ d)
-sum_one nodes a q r c d p s = let e = p.found in let f = s.found in let i : p.node ≡ s.node = cc in
-    (
-      sym p.part ∙ ap (λ (z : Node). slice_index z.parts.items 0) i ∙ s.part,
-      number_one nodes (slice_index p.node.parts.items 1) c d p.number (subst (λ (z : Node). IsNumber nodes (slice_index z.parts.items 1) d) (sym i) s.number),
-    )
+sum_one nodes a q r c d p s = let e = p.found in let f = s.found in let i : p.node ≡ s.node = cc in (
+  sym p.part ∙ ap (λ (z : Node). slice_index z.parts.items 0) i ∙ s.part,
+  number_one nodes (slice_index p.node.parts.items 1) c d p.number (subst (λ (z : Node). IsNumber nodes (slice_index z.parts.items 1) d) (sym i) s.number),
+)
 
 -- the part of a sum is a term
 pub sum_part : (nodes : List Node) (n a q : ℕ) (c : ℤ) → PartsAreBelow nodes n → IsPlus nodes a q c → q < n

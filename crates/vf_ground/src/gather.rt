@@ -13,13 +13,7 @@ use vf_refute::Fact;
 use vf_table::{Node, is_zero, number_at, shift_at};
 
 /// Adds a bound and the opposite one.
-fn add_both(
-    alloc: Global,
-    bounds: &mut Bounds,
-    x: u32,
-    y: u32,
-    most: i128,
-) -> Result<(), Memory>
+fn add_both(alloc: Global, bounds: &mut Bounds, x: u32, y: u32, most: i128) -> Result<(), Memory>
     requires left { x < bounds.old.size }
     requires right { y < bounds.old.size }
     requires small { IsSmall (2 ^ 100) most }

@@ -82,14 +82,41 @@ fn equalities_are_decided(rt: HostRuntime) -> Result<(), Fail> {
 #[test]
 fn bounds_are_decided(rt: HostRuntime) -> Result<(), Fail> {
     let cases: [(&[Fact], bool); 10] = [
-        (&[Fact::AtMost(1, 2, 0), Fact::AtMost(2, 1, 0), Fact::NotEqual(3, 4)], true),
-        (&[Fact::AtMost(1, 2, 0), Fact::AtMost(2, 1, 1), Fact::NotEqual(3, 4)], false),
+        (
+            &[
+                Fact::AtMost(1, 2, 0),
+                Fact::AtMost(2, 1, 0),
+                Fact::NotEqual(3, 4),
+            ],
+            true,
+        ),
+        (
+            &[
+                Fact::AtMost(1, 2, 0),
+                Fact::AtMost(2, 1, 1),
+                Fact::NotEqual(3, 4),
+            ],
+            false,
+        ),
         (&[Fact::AtMost(1, 2, 0), Fact::AtMost(2, 1, -1)], true),
         (&[Fact::AtMost(5, 2, 0), Fact::AtMost(2, 1, 0)], true),
         (&[Fact::AtMost(5, 2, 0), Fact::AtMost(2, 1, 1)], false),
-        (&[Fact::Difference(1, 0, 3), Fact::NotDifference(5, 0, 4)], true),
-        (&[Fact::Difference(1, 0, 3), Fact::NotDifference(5, 0, 5)], false),
-        (&[Fact::Equal(1, 6), Fact::Difference(2, 0, 1), Fact::NotEqual(9, 10)], true),
+        (
+            &[Fact::Difference(1, 0, 3), Fact::NotDifference(5, 0, 4)],
+            true,
+        ),
+        (
+            &[Fact::Difference(1, 0, 3), Fact::NotDifference(5, 0, 5)],
+            false,
+        ),
+        (
+            &[
+                Fact::Equal(1, 6),
+                Fact::Difference(2, 0, 1),
+                Fact::NotEqual(9, 10),
+            ],
+            true,
+        ),
         (&[Fact::Equal(5, 7), Fact::NotEqual(1, 2)], true),
         (&[Fact::Equal(1, 2), Fact::AtMost(5, 1, 0)], true),
     ];

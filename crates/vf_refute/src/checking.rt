@@ -78,13 +78,7 @@ fn are_opposite(p: Span, q: Span) -> bool
 }
 
 /// Whether two steps bound a difference both ways by a number that a fact denies it to be.
-fn is_denied_difference(
-    nodes: &[Node],
-    facts: &[Fact],
-    known: &[Derived],
-    a: u32,
-    b: u32,
-) -> bool
+fn is_denied_difference(nodes: &[Node], facts: &[Fact], known: &[Derived], a: u32, b: u32) -> bool
     requires { AllFollow nodes.now facts.now known.now }
     ensures { IsTrue result → Conflict nodes.now facts.now }
 {

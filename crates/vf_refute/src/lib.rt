@@ -8,6 +8,8 @@
 mod checking;
 mod rows;
 mod steps;
+#[cfg(test)]
+mod tests;
 
 pub use checking::recheck;
 pub use steps::{Derived, Fact, Numbers, Step};

@@ -304,13 +304,7 @@ fn by_chain(nodes: &[Node], facts: &[Fact], known: &[Derived], a: u32, b: u32) -
 }
 
 /// What two bounds 0 derive.
-fn by_squeeze(
-    nodes: &[Node],
-    facts: &[Fact],
-    known: &[Derived],
-    a: u32,
-    b: u32,
-) -> Option<Derived>
+fn by_squeeze(nodes: &[Node], facts: &[Fact], known: &[Derived], a: u32, b: u32) -> Option<Derived>
     requires { AllFollow nodes.now facts.now known.now }
     ensures { IfSome result (Follows nodes.now facts.now) }
 {

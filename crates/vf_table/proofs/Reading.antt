@@ -1,5 +1,5 @@
 -- What `get` says of a list.
-use Rattle.std.proofs.Common.{◌≡◌, ℕ, ◌<◌, Bool, true, false, List, length, get_or, Some, None, refl, sym, ltb, subst, ◌∙◌, arith}
+use Rattle.std.proofs.Common.{◌≡◌, ℕ, ◌<◌, true, false, List, length, get_or, Some, refl, sym, ltb, subst, ◌∙◌, arith}
 use Rattle.std.specs.Prelude.{Contains, All, slice_get}
 use Rattle.std.proofs.lemmas.Option.{slice_get_read, slice_get_within}
 use Rattle.std.proofs.lemmas.List.{get_or_default}

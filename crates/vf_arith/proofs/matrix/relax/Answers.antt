@@ -1,4 +1,4 @@
-use Rattle.std.proofs.Common.{◌≡◌, ℕ, ◌<◌, ◌≤◌, ◌≢◌, ◌/◌, ◌%◌, length, Some, None, arith, set, get_or-set_same, get_or-set_other, below_more, refl, ap, sym, ◌∙◌}
+use Rattle.std.proofs.Common.{◌≡◌, ◌<◌, ◌≢◌, ◌/◌, ◌%◌, length, arith, set, get_or-set_same, get_or-set_other, below_more, ap, ◌∙◌}
 use Rattle.std.specs.Prelude.{ℤ, Option}
 use Rattle.vf_arith.specs.Matrices.{entry, lesser, over_edge}
 use Rattle.vf_arith.proofs.matrix.relax.Goals as goal

@@ -1,8 +1,5 @@
-use Rattle.std.proofs.Common.{◌≡◌, ℕ, ◌^◌, ap, sym, ◌∙◌, subst, arith, Some, FitsSigned}
-use Rattle.std.specs.Prelude.{ℤ, ◌+ℤ◌}
-use Rattle.std.proofs.lemmas.Int.{ints, to_z-of_z}
-use Rattle.vf_arith.specs.Paths.{IsSmall}
-use Rattle.vf_arith.specs.Matrices.{over_edge}
+use Rattle.std.proofs.Common.{ap, arith, Some}
+use Rattle.std.proofs.lemmas.Int.{ints}
 use Rattle.vf_arith.proofs.matrix.way_over.Goals as goal
 
 pub overflow_add-result : goal.overflow_add-result

@@ -1,4 +1,4 @@
-use Rattle.std.proofs.Common.{◌≡◌, ℕ, ◌<◌, slice_index, arith, refl, below_more}
+use Rattle.std.proofs.Common.{slice_index, arith, refl, below_more}
 use Rattle.vf_congruence.specs.Meeting.{AreTogether}
 use Rattle.vf_congruence.proofs.Meeting.{paired_none, paired_more, changed_yes, changed_no}
 use Rattle.vf_congruence.proofs.joining.join_parts.Goals as goal

@@ -1,4 +1,4 @@
-use Rattle.std.proofs.Common.{◌≡◌, ℕ, ◌<◌, slice_index, length, sum, IsTrue, IsFalse}
+use Rattle.std.proofs.Common.{◌≡◌, ℕ, ◌<◌, slice_index, sum, IsTrue, IsFalse}
 use Rattle.vf_congruence.specs.Meeting.{AreTogether, StayTogether, OnlyPairedMeet}
 use Rattle.vf_congruence.proofs.joining.join_parts.Given as goal
 

@@ -1,6 +1,6 @@
-use Rattle.std.proofs.Common.{◌≡◌, ℕ, ◌<◌, ◌∷◌, [], length, slice_index, refl, arith, inl, inr}
+use Rattle.std.proofs.Common.{◌∷◌, [], refl, arith, inl, inr}
 use Rattle.vf_congruence.specs.Congruence.{based, congruent_back}
-use Rattle.vf_congruence.specs.Meeting.{AreTogether, AreTogetherOrPaired}
+use Rattle.vf_congruence.specs.Meeting.{AreTogetherOrPaired}
 use Rattle.vf_congruence.proofs.Meeting.{renamed, renamed_falls, paired_none}
 use Rattle.vf_congruence.proofs.joining.join_two.Goals as goal
 

@@ -1,4 +1,4 @@
-use Rattle.std.proofs.Common.{◌≡◌, ℕ, ◌<◌, slice_index, length, sum, arith, refl, sym, ◌∙◌, ap}
+use Rattle.std.proofs.Common.{sum, arith, ap}
 use Rattle.vf_congruence.specs.Meeting.{AreTogether}
 use Rattle.vf_congruence.proofs.Meeting.{settled_has, only_none, only_more}
 use Rattle.vf_congruence.proofs.joining.settle.Goals as goal

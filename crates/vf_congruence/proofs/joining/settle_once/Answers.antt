@@ -1,4 +1,4 @@
-use Rattle.std.proofs.Common.{◌≡◌, ℕ, ◌<◌, slice_index, arith, refl, sym, ◌∙◌, below_more}
+use Rattle.std.proofs.Common.{arith, refl, sym, ◌∙◌, below_more}
 use Rattle.vf_congruence.specs.Meeting.{IsSettledAt}
 use Rattle.vf_congruence.proofs.Meeting.{only_none, only_more, changed_yes, changed_no}
 use Rattle.vf_congruence.proofs.joining.settle_once.Goals as goal

@@ -1,8 +1,5 @@
-use Rattle.std.proofs.Common.{◌≡◌, ℕ, ◌<◌, length, All, slice_index, slice_get, Some, true, false, arith, refl, subst}
+use Rattle.std.proofs.Common.{◌≡◌, length, true, false, arith, refl}
 use Rattle.std.proofs.lemmas.Option.{slice_get_read}
-use Rattle.vf_table.specs.declared.node.Node.{Node}
-use Rattle.vf_table.specs.Tables.{IsInjective}
-use Rattle.vf_congruence.specs.Meeting.{AreTogether, PartsAreTogether}
 use Rattle.vf_congruence.proofs.Meeting.{parts_are_terms, settled_apart, settled_not_injective, settled_injective, settled_unlike, only_none, only_parts, only_whole}
 use Rattle.vf_congruence.proofs.joining.settle_pair.Goals as goal
 

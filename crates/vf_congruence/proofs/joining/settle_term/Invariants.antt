@@ -1,5 +1,5 @@
-use Rattle.std.proofs.Common.{◌≡◌, ℕ, ◌<◌, slice_index, length, sum, IsTrue, IsFalse}
-use Rattle.vf_congruence.specs.Meeting.{AreTogether, StayTogether, OnlyCongruentMeet, IsSettledAt}
+use Rattle.std.proofs.Common.{◌≡◌, ℕ, ◌<◌, sum, IsTrue, IsFalse}
+use Rattle.vf_congruence.specs.Meeting.{StayTogether, OnlyCongruentMeet, IsSettledAt}
 use Rattle.vf_congruence.proofs.joining.settle_term.Given as goal
 
 abbrev pub invariant-loop-b : goal.invariant-loop-b

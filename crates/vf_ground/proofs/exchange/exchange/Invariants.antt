@@ -1,4 +1,4 @@
-use Rattle.std.proofs.Common.{◌≡◌, ◌+◌, length}
+use Rattle.std.proofs.Common.{◌≡◌, ◌+◌}
 use Rattle.vf_arith.specs.Paths.{HasNegativeCycle}
 use Rattle.vf_ground.specs.Held.{HaveGrown}
 use Rattle.vf_ground.proofs.exchange.exchange.Given as goal

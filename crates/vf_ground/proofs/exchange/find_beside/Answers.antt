@@ -1,4 +1,4 @@
-use Rattle.std.proofs.Common.{◌<◌, ℕ, below_more}
+use Rattle.std.proofs.Common.{below_more}
 use Rattle.vf_ground.specs.Held.{Agree}
 use Rattle.vf_ground.proofs.exchange.find_beside.Goals as goal
 

@@ -1,4 +1,4 @@
-use Rattle.std.proofs.Common.{ℕ, ◌<◌, length}
+use Rattle.std.proofs.Common.{ℕ, ◌<◌}
 use Rattle.vf_ground.specs.Held.{Agree}
 use Rattle.vf_ground.proofs.exchange.find_beside.Given as goal
 

@@ -1,8 +1,4 @@
-use Rattle.std.proofs.Common.{◌≡◌, refl, sym, subst, arith}
-use Rattle.std.specs.Prelude.{ℤ, pos, ◌≤ℤ◌}
-use Rattle.std.proofs.lemmas.Int.{ints}
 use Rattle.vf_refute.specs.Closure.{level, squeezed}
-use Rattle.vf_ground.specs.Held.{HaveGrown, Lacks}
 use Rattle.vf_ground.proofs.Closed.{grown_edge, grown_merge, same_by, near_by}
 use Rattle.vf_ground.proofs.exchange.supply.Goals as goal
 

@@ -1,4 +1,4 @@
-use Rattle.std.proofs.Common.{◌≡◌, rules}
+use Rattle.std.proofs.Common.{rules}
 use Rattle.std.proofs.lemmas.Int.{to_z-of_z}
 use Rattle.vf_ground.proofs.Gained.{gains_equal, gains_most, gains_difference}
 use Rattle.vf_ground.proofs.gather.add_fact.Goals as goal

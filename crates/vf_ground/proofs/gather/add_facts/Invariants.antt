@@ -1,4 +1,4 @@
-use Rattle.std.proofs.Common.{◌≡◌, ℕ, ◌<◌, length, slice_index_or}
+use Rattle.std.proofs.Common.{◌≡◌, ℕ, ◌<◌, slice_index_or}
 use Rattle.vf_refute.specs.declared.steps.Fact.{Fact}
 use Rattle.vf_ground.specs.Held.{AreSound, HasFact}
 use Rattle.vf_ground.proofs.gather.add_facts.Given as goal

@@ -1,4 +1,4 @@
-use Rattle.std.proofs.Common.{◌≡◌, ℕ, ◌<◌, length}
+use Rattle.std.proofs.Common.{◌≡◌, ℕ, ◌<◌}
 use Rattle.std.specs.Prelude.{pos}
 use Rattle.vf_table.specs.Tables.{IsNumber}
 use Rattle.vf_ground.specs.Held.{HaveBoundsGrown, HasBoth}

@@ -1,4 +1,4 @@
-use Rattle.std.proofs.Common.{◌≡◌, ◌<◌, ℕ, refl, ◌∙◌, below_more, []}
+use Rattle.std.proofs.Common.{◌∙◌, below_more, []}
 use Rattle.vf_ground.specs.Held.{HasTerm}
 use Rattle.vf_ground.proofs.Gained.{term_kept}
 use Rattle.vf_ground.proofs.Closed.{grown_join}

@@ -1,4 +1,4 @@
-use Rattle.std.proofs.Common.{◌≡◌, ℕ, ◌<◌, length}
+use Rattle.std.proofs.Common.{◌≡◌, ℕ, ◌<◌}
 use Rattle.vf_ground.specs.Held.{HaveBoundsGrown, HasTerm}
 use Rattle.vf_ground.proofs.gather.add_terms.Given as goal
 

@@ -1,4 +1,4 @@
-use Rattle.std.proofs.Common.{◌≡◌, refl, rules}
+use Rattle.std.proofs.Common.{refl}
 use Rattle.std.proofs.lemmas.Int.{to_z-of_z}
 use Rattle.vf_ground.proofs.Gained.{number_added, two_are}
 use Rattle.vf_ground.proofs.gather.add_zero.Goals as goal

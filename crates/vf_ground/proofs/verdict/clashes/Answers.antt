@@ -1,4 +1,4 @@
-use Rattle.std.proofs.Common.{◌≡◌, ◌<◌, ℕ, below_more}
+use Rattle.std.proofs.Common.{below_more}
 use Rattle.vf_ground.specs.Held.{Clash}
 use Rattle.vf_ground.proofs.verdict.clashes.Goals as goal
 

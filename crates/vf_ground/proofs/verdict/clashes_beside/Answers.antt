@@ -1,4 +1,4 @@
-use Rattle.std.proofs.Common.{◌≡◌, ◌<◌, ℕ, true, false, below_more}
+use Rattle.std.proofs.Common.{◌≡◌, true, false, below_more}
 use Rattle.vf_ground.specs.Held.{Clash}
 use Rattle.vf_ground.proofs.verdict.clashes_beside.Goals as goal
 

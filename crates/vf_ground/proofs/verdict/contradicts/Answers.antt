@@ -1,7 +1,6 @@
-use Rattle.std.proofs.Common.{◌≡◌, refl, sym, subst, rules, arith}
-use Rattle.std.specs.Prelude.{ℤ, pos, ◌+ℤ◌, neg_ℤ}
+use Rattle.std.proofs.Common.{◌≡◌, refl, rules, arith}
+use Rattle.std.specs.Prelude.{pos, ◌+ℤ◌, neg_ℤ}
 use Rattle.std.proofs.lemmas.Int.{ints, to_z-of_z}
-use Rattle.vf_ground.specs.Held.{IsNear, IsContradicted}
 use Rattle.vf_ground.proofs.verdict.contradicts.Goals as goal
 
 pub returns-then-is_near : goal.returns-then-is_near

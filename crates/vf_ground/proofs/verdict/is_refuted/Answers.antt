@@ -1,4 +1,4 @@
-use Rattle.std.proofs.Common.{◌≡◌, refl, sym, ◌∙◌, subst, List, IsTrue, ◌↔◌}
+use Rattle.std.proofs.Common.{◌∙◌, subst, List, IsTrue, ◌↔◌}
 use Rattle.vf_table.specs.declared.node.Node.{Node}
 use Rattle.vf_refute.specs.Closure.{Conflict}
 use Rattle.vf_ground.proofs.Verdicts.{final_sound, final_complete}
@@ -13,5 +13,7 @@ decide-requires-clause-complete c = λ fine. final_complete c.add_facts.new.clas
     c.nodes.ensures c.in_ok-exchange.ensures.nodes c.in_ok-add_facts.ensures.has c.in_ok-add_terms.ensures.has c.in_ok-add_terms.ensures.added c.in_ok-exchange.ensures.grown (c.in_ok-exchange.ensures.settled fine)
 
 pub returns : goal.returns
-returns c = record { exact = subst (λ (n : List Node). IsTrue c.decide.result ↔ Conflict n c.args.facts.now)
-    (c.in_ok-exchange.ensures.nodes ∙ c.in_ok-add_facts.ensures.nodes ∙ c.in_ok-classes.ensures.0) c.decide.ensures }
+returns c = record {
+  exact = subst (λ (n : List Node). IsTrue c.decide.result ↔ Conflict n c.args.facts.now)
+      (c.in_ok-exchange.ensures.nodes ∙ c.in_ok-add_facts.ensures.nodes ∙ c.in_ok-classes.ensures.0) c.decide.ensures;
+}

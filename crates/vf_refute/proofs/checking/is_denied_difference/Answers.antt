@@ -1,5 +1,5 @@
-use Rattle.std.proofs.Common.{◌≡◌, ℕ, rules, refl, sym, subst}
-use Rattle.std.specs.Prelude.{ℤ, neg_ℤ}
+use Rattle.std.proofs.Common.{rules, refl, subst}
+use Rattle.std.specs.Prelude.{ℤ}
 use Rattle.std.proofs.lemmas.Int.{to_z-of_z}
 use Rattle.vf_refute.specs.Closure.{Bound, denied_difference}
 use Rattle.vf_refute.proofs.checking.is_denied_difference.Goals as goal

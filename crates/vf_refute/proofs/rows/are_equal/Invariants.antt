@@ -1,4 +1,4 @@
-use Rattle.std.proofs.Common.{◌≡◌, ℕ, ◌<◌, slice_index}
+use Rattle.std.proofs.Common.{ℕ, ◌<◌, slice_index}
 use Rattle.vf_refute.specs.Closure.{Same}
 use Rattle.vf_refute.proofs.rows.are_equal.Given as goal
 

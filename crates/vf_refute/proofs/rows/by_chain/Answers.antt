@@ -1,5 +1,4 @@
-use Rattle.std.proofs.Common.{◌≡◌, subst, sym, arith, rules, ◌∙◌}
-use Rattle.std.specs.Prelude.{ℤ, ◌+ℤ◌}
+use Rattle.std.proofs.Common.{subst, sym, rules}
 use Rattle.std.proofs.lemmas.Int.{to_z-of_z}
 use Rattle.vf_refute.specs.Closure.{Bound, chain}
 use Rattle.vf_refute.proofs.rows.by_chain.Goals as goal

@@ -1,4 +1,4 @@
-use Rattle.std.proofs.Common.{refl, sym, true, rules}
+use Rattle.std.proofs.Common.{refl, rules}
 use Rattle.vf_refute.specs.Closure.{congruent}
 use Rattle.vf_table.proofs.Reading.{item_read}
 use Rattle.vf_refute.proofs.rows.by_congruence.Goals as goal

@@ -1,5 +1,5 @@
-use Rattle.std.proofs.Common.{◌≡◌, refl, sym, rules, subst, ◌∙◌}
-use Rattle.std.specs.Prelude.{ℤ, neg_ℤ}
+use Rattle.std.proofs.Common.{◌≡◌, refl, sym, rules, subst}
+use Rattle.std.specs.Prelude.{neg_ℤ}
 use Rattle.std.proofs.lemmas.Int.{to_z-of_z}
 use Rattle.vf_refute.specs.Steps.{Follows}
 use Rattle.vf_refute.specs.Closure.{Bound, level, same_back, difference_down}

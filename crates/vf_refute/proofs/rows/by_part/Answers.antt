@@ -1,5 +1,5 @@
-use Rattle.std.proofs.Common.{◌≡◌, ◌<◌, sym, refl, arith}
-use Rattle.vf_refute.specs.Closure.{Same, injective}
+use Rattle.std.proofs.Common.{refl}
+use Rattle.vf_refute.specs.Closure.{injective}
 use Rattle.vf_table.proofs.Reading.{item_read}
 use Rattle.vf_refute.proofs.rows.by_part.Goals as goal
 

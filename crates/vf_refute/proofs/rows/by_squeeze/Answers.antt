@@ -1,8 +1,8 @@
-use Rattle.std.proofs.Common.{◌≡◌, subst, sym, arith, rules, refl, ap, ◌∙◌}
+use Rattle.std.proofs.Common.{◌≡◌, subst, sym, rules, refl, ap, ◌∙◌}
 use mir.Val.{to_z}
 use mir.Syntax.{w128}
 use Rattle.std.proofs.lemmas.Int.{to_z-of_z}
-use Rattle.std.specs.Prelude.{ℤ, pos}
+use Rattle.std.specs.Prelude.{pos}
 use Rattle.vf_refute.specs.Closure.{Bound, squeezed}
 use Rattle.vf_refute.proofs.rows.by_squeeze.Goals as goal
 

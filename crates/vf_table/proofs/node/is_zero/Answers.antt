@@ -1,6 +1,6 @@
-use Rattle.std.proofs.Common.{◌≡◌, ap, subst, arith, rules}
+use Rattle.std.proofs.Common.{◌≡◌, subst, arith, rules}
 use Rattle.std.specs.Prelude.{ℤ, pos}
-use Rattle.std.proofs.lemmas.Int.{ints, to_z-of_z}
+use Rattle.std.proofs.lemmas.Int.{ints}
 use Rattle.vf_table.specs.declared.node.Head.TheVariants.{Number}
 use Rattle.vf_table.specs.declared.node.Node.{Node}
 use Rattle.vf_table.proofs.Reading.{item_read, item_missing}

@@ -1,6 +1,5 @@
 use Rattle.std.proofs.Common.{◌≡◌, subst, rules}
 use Rattle.std.proofs.lemmas.Int.{to_z-of_z}
-use Rattle.std.specs.Prelude.{ℤ}
 use Rattle.vf_table.specs.declared.node.Head.TheVariants.{Number}
 use Rattle.vf_table.specs.declared.node.Node.{Node}
 use Rattle.vf_table.proofs.Reading.{item_read}

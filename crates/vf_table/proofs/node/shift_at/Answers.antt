@@ -1,8 +1,6 @@
-use Rattle.std.proofs.Common.{◌≡◌, ◌<◌, ℕ, length, arith, rules, refl, subst, sym, ◌∙◌}
-use Rattle.std.specs.Prelude.{ℤ}
+use Rattle.std.proofs.Common.{arith, rules, subst, sym}
 use Rattle.std.proofs.lemmas.Int.{to_z-of_z}
-use Rattle.vf_table.specs.declared.node.Node.{Node}
-use Rattle.vf_table.specs.Tables.{IsNumber, IsPlus}
+use Rattle.vf_table.specs.Tables.{IsNumber}
 use Rattle.vf_table.proofs.Reading.{item_read, number_read, same_node}
 use Rattle.vf_table.proofs.node.shift_at.Goals as goal
 

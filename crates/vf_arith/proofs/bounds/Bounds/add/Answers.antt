@@ -1,10 +1,10 @@
-use Rattle.std.proofs.Common.{◌≡◌, ◌<◌, ℕ, ◌++◌, length, take, drop, ap, sym, ◌∙◌, refl, true, false, arith, Some}
+use Rattle.std.proofs.Common.{◌≡◌, ◌<◌, length, drop, ap, sym, ◌∙◌, refl, true, false, arith}
 use mir.Val.{to_z, of_z}
 use mir.Syntax.{w128}
-use Rattle.std.proofs.lemmas.Int.{ints, to_z-of_z}
-use Rattle.std.specs.Prelude.{ℤ, pos, ◌+ℤ◌, ◌<ℤ◌, Option, List}
+use Rattle.std.proofs.lemmas.Int.{ints}
+use Rattle.std.specs.Prelude.{ℤ, Option, List}
 use Rattle.vf_arith.specs.Paths.{Network}
-use Rattle.vf_arith.specs.Matrices.{distance, entry, AreSmall, lesser, over_edge}
+use Rattle.vf_arith.specs.Matrices.{distance}
 use Rattle.vf_arith.proofs.Entries.{cycle_more, weight_falls, matrix_cyclic, matrix_closes, matrix_relaxed, at_entry, column_small, rows_small, written}
 use Rattle.vf_arith.proofs.bounds.Bounds.add.Goals as goal
 

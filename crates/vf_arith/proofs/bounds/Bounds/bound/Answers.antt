@@ -1,8 +1,8 @@
-use Rattle.std.proofs.Common.{◌≡◌, ◌<◌, ◌+◌, ◌*◌, length, ap, sym, ◌∙◌, refl, true, false, arith, Bool}
+use Rattle.std.proofs.Common.{◌≡◌, ◌<◌, ◌+◌, ◌*◌, ap, refl, true, false, arith, Bool}
 use Rattle.std.proofs.lemmas.Nat.{mul-add-lt}
-use Rattle.vf_arith.specs.Paths.{Network, HasNegativeCycle}
+use Rattle.vf_arith.specs.Paths.{Network}
 use Rattle.vf_arith.specs.Matrices.{distance}
-use Rattle.vf_arith.proofs.Entries.{cycle_iff, bound_is, at_entry}
+use Rattle.vf_arith.proofs.Entries.{bound_is, at_entry}
 use Rattle.vf_arith.proofs.bounds.Bounds.bound.Goals as goal
 
 unset : (b : Bool) → (b ≡ true → ⊥) → b ≡ false

@@ -1,5 +1,5 @@
 use Rattle.std.proofs.Common.{ap}
-use Rattle.vf_arith.specs.Paths.{Network, HasNegativeCycle}
+use Rattle.vf_arith.specs.Paths.{Network}
 use Rattle.vf_arith.proofs.Entries.{cycle_iff}
 use Rattle.vf_arith.proofs.bounds.Bounds.conflict.Goals as goal
 

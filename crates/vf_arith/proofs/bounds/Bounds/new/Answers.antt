@@ -1,4 +1,3 @@
-use Rattle.std.proofs.Common.{ap, sym, ◌∙◌, refl, true, false}
 use Rattle.vf_arith.proofs.Entries.{matrix_none}
 use Rattle.vf_arith.proofs.bounds.Bounds.new.Goals as goal
 

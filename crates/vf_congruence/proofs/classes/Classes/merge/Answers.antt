@@ -1,4 +1,4 @@
-use Rattle.std.proofs.Common.{◌≡◌, ◌<◌, ◌++◌, ◌∷◌, [], length, take, drop, ap, arith}
+use Rattle.std.proofs.Common.{◌≡◌, length, drop, ap, arith}
 use Rattle.vf_congruence.specs.Congruence.{Merges}
 use Rattle.vf_congruence.proofs.Meeting.{least_more, written}
 use Rattle.vf_congruence.proofs.classes.Classes.merge.Goals as goal

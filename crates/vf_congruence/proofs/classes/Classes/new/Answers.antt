@@ -1,4 +1,4 @@
-use Rattle.std.proofs.Common.{◌≡◌, ◌<◌, ◌++◌, ◌∷◌, [], length, take, drop, arith}
+use Rattle.std.proofs.Common.{◌≡◌, length, drop, arith}
 use Rattle.vf_congruence.proofs.Meeting.{least_none, written}
 use Rattle.vf_congruence.proofs.classes.Classes.new.Goals as goal
 
