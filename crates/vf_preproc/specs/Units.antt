@@ -7,7 +7,7 @@ use Rattle.vf_preproc.specs.declared.sources.Loaded.{Loaded}
 use Rattle.vf_preproc.specs.declared.fault.ExpandFault.{ExpandFault}
 use Rattle.vf_preproc.specs.declared.fault.ExpandFault.TheVariants as faults
 use Rattle.vf_lexer.specs.declared.token.Token.{Token}
-use Rattle.vf_lexer.specs.Tokens.{Gives as Cuts, Stops, beginning as start_of}
+use Rattle.vf_lexer.specs.Cuts.{HasTokens, HasFault}
 use Rattle.vf_snapshot.specs.declared.held.Held.{Held}
 use Rattle.vf_snapshot.specs.declared.held.Held.TheVariants as known
 use Rattle.vf_snapshot.specs.declared.held.SnapFault.{SnapFault}
@@ -26,11 +26,11 @@ unit_of u = record { tokens = u.tokens; paths = u.paths; complete = map (option_
 
 -- these are the tokens of the bytes of a file with a number, all of them ghost in a ghost header
 abbrev pub Lexes : Bool → ℕ → List ℕ → List Token → Type 0
-Lexes ghost number bytes tokens = Cuts (start_of ghost number bytes) tokens
+Lexes ghost number bytes tokens = HasTokens ghost number bytes tokens
 
--- at this place the bytes of a file have no token
+-- at this place the bytes of a file cannot be cut into tokens
 abbrev pub HasNoToken : Bool → ℕ → List ℕ → Place → Type 0
-HasNoToken ghost number bytes place = Stops (start_of ghost number bytes) place
+HasNoToken ghost number bytes place = HasFault ghost number bytes place
 
 -- a library tells of a path what is held of it; a file of more than 1,048,576 bytes is too long
 abbrev pub TellsOf : Library → List ℕ → ℕ → Held → Type 0
