@@ -1,2 +1,3 @@
 pub mod Safe
 pub mod Laws
+pub mod Example

@@ -1,5 +1,6 @@
 //! Laws of what is accepted. Each function does nothing; its contract is the law.
 
+ghost use Rattle.vf_safety.specs.Example.{BoxIsAccepted};
 ghost use Rattle.vf_safety.specs.Laws.{AcceptedCallsAreSafe, AcceptedProgramsAreSafe, AcceptedThreadsAreSafe};
 
 /// A call of an accepted function is safe for every number of steps for which what comes after it is.
@@ -16,4 +17,9 @@ pub fn accepted_threads_are_safe()
 /// of nothing at its beginning, and its postcondition of all that the thread has at its end.
 pub fn accepted_programs_are_safe()
     ensures { AcceptedProgramsAreSafe }
+{}
+
+/// A program that allocates a struct, writes and reads its field and frees it is accepted.
+pub fn box_is_accepted()
+    ensures { BoxIsAccepted }
 {}
