@@ -1,6 +1,0 @@
-use Rattle.std.proofs.Common.{◌≡◌, drop}
-use Rattle.vf_parse_c.specs.Unsupported.{first_unsupported}
-use Rattle.vf_parse_c.proofs.unsupported.first_unsupported.Given as goal
-
-abbrev pub invariant-loop-token : goal.invariant-loop-token
-invariant-loop-token l = first_unsupported (drop l.token-index l.tokens) ≡ first_unsupported l.tokens

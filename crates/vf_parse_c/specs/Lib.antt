@@ -1,2 +1,0 @@
-pub mod Unsupported
-pub mod Plain

@@ -1,6 +1,0 @@
-use Rattle.std.proofs.Common.{◌≡◌, drop}
-use Rattle.vf_syntax.specs.Assertions.{are_value_patterns}
-use Rattle.vf_parse_ghost.proofs.value.are_value_patterns.Given as goal
-
-abbrev pub invariant-loop-pattern : goal.invariant-loop-pattern
-invariant-loop-pattern l = are_value_patterns (drop l.pattern-index l.pattern-items) ≡ are_value_patterns l.pattern-items
