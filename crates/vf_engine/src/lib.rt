@@ -1,0 +1,16 @@
+//! The machine of whole programs, one core step at a time.
+#![tactic(auto)]
+
+mod access;
+mod blocks;
+mod calls;
+mod cell;
+mod effect;
+mod expressions;
+mod integers;
+mod signature;
+mod state;
+mod value;
+
+pub use expressions::{Trouble, evaluate};
+pub use value::Value;
