@@ -5,3 +5,4 @@ pub mod Cells
 pub mod States
 pub mod Effects
 pub mod Calls
+pub mod Changes

@@ -118,7 +118,7 @@ fn set_cell(block: &mut Block, index: usize, value: Value)
 }
 
 /// Writes a value at an index, where it is there.
-fn set_at(cells: &mut Vec<Option<Value>>, index: usize, value: Value)
+pub fn set_at(cells: &mut Vec<Option<Value>>, index: usize, value: Value)
     ensures { (names : List Identity) → cells_of names cells.new.items ≡ slice_set (cells_of names cells.old.items) index (Some (value_of names value)) }
 {
     if index < cells.len() {

@@ -8,8 +8,11 @@ mod cell;
 mod effect;
 mod expressions;
 mod integers;
+mod frames;
 mod signature;
 mod state;
+mod step;
+mod threads;
 mod value;
 
 pub use expressions::{Trouble, evaluate};
