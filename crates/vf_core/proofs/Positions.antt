@@ -1,6 +1,6 @@
 -- The first element of a list that passes a test, and what a list has after a push.
 use Rattle.std.proofs.Common.{◌≡◌, ℕ, zero, suc, ◌+◌, ◌<◌, ◌≤◌, Bool, true, false, not, List, [], ◌∷◌, ◌++◌, length, map, Option, Some, None, slice_get, refl, sym, ap, ◌∙◌, arith}
-use Rattle.std.specs.List.{position, position_from, position_or_len}
+use Rattle.std.specs.List.{position, position_from, position_or_len, find}
 use Rattle.std.proofs.lemmas.Bool.{cond-true, cond-false}
 use Rattle.std.proofs.lemmas.Iterator.Adapters.{position_from-zero}
 
@@ -47,3 +47,26 @@ pushed_has P [] x old new zero y at = let e : x ≡ y = cc in rw (← e) new
 pushed_has P [] x old new (suc n) y at = cc
 pushed_has P (z ∷ xs) x old new zero y at = old zero y at
 pushed_has P (z ∷ xs) x old new (suc n) y at = pushed_has (λ k w. P (suc k) w) xs x (λ k w found. old (suc k) w found) new n y at
+
+-- the first element that passes a test
+pub find_found : {A B : Type 0} (g : A → B) (q : B → Bool) (xs : List A) (i : ℕ) (x : A)
+    → slice_get xs i ≡ Some x → q (g x) ≡ true → ((k : ℕ) (y : A) → k < i → slice_get xs k ≡ Some y → q (g y) ≡ false)
+    → find q (map g xs) ≡ Some (g x)
+find_found g q [] i x at is before = cc
+find_found g q (y ∷ xs) zero x at is before =
+    let e : y ≡ x = cc in
+    let here : q (g y) ≡ true = ap (λ z. q (g z)) e ∙ is in
+    cond-true _ (Some (g y)) (find q (map g xs)) here ∙ ap (λ z. Some (g z)) e
+find_found g q (y ∷ xs) (suc i) x at is before =
+    let here : q (g y) ≡ false = before 0 y (omega arith) refl in
+    cond-false _ (Some (g y)) (find q (map g xs)) here
+    ∙ find_found g q xs i x at is (λ k z less found. before (suc k) z (omega arith) found)
+
+-- no element where none passes
+pub find_missing : {A B : Type 0} (g : A → B) (q : B → Bool) (xs : List A)
+    → ((k : ℕ) (y : A) → slice_get xs k ≡ Some y → q (g y) ≡ false)
+    → find q (map g xs) ≡ None
+find_missing g q [] none = refl
+find_missing g q (y ∷ xs) none =
+    cond-false _ (Some (g y)) (find q (map g xs)) (none 0 y refl)
+    ∙ find_missing g q xs (λ k z found. none (suc k) z found)

@@ -6,6 +6,7 @@ ghost use Rattle.vf_tree.specs.Core.{Identity};
 ghost use Rattle.vf_model.specs.Values.{same_identity};
 ghost use Rattle.vf_model.specs.PreludeFunctions.{prelude_named};
 ghost use Rattle.vf_model.specs.State.{function_named};
+ghost use Rattle.vf_model.specs.Accesses.{field_count};
 ghost use Rattle.vf_core.specs.Shown.{identity_of, prelude_of, program_of};
 ghost use Rattle.vf_core.specs.Resolution.{IsResolved};
 
@@ -13,13 +14,15 @@ use crate::step::Unit;
 use crate::words::{Name, PreludeFunction};
 use vf_base::{Sequence, Text};
 
-/// What a name calls.
+/// What a name calls, and which struct it names.
 #[derive(Clone, Copy, Debug, PartialEq, Eq)]
 pub struct Resolved {
     /// The function of the prelude that has the name, which is done in one step.
     pub prelude: Option<PreludeFunction>,
     /// The number of the program's function of the name.
     pub body: Option<usize>,
+    /// How many fields the program's struct of the name has, and 0 where it has none.
+    pub fields: usize,
 }
 
 /// The bytes of a name, and no bytes where the table has no such name.
@@ -82,12 +85,27 @@ fn body_named(unit: &Unit, text: &[u8]) -> Option<usize>
     None
 }
 
-/// What a text calls.
+/// How many fields the struct has that has a text as its name, and 0 where there is none.
+fn fields_named(unit: &Unit, text: &[u8]) -> usize
+    ensures { result ≡ field_count (program_of unit.now) text.now }
+{
+    for i in 0..unit.structs.len() {
+        if let Some(body) = unit.structs.get(i)
+            && text_of(&unit.names, body.identity) == text
+        {
+            return body.fields.len();
+        }
+    }
+    0
+}
+
+/// What a text calls, and which struct it names.
 pub fn resolve_text(unit: &Unit, text: &[u8]) -> Resolved
     ensures { IsResolved (program_of unit.now) text.now result }
 {
     Resolved {
         prelude: prelude_named(text),
         body: body_named(unit, text),
+        fields: fields_named(unit, text),
     }
 }

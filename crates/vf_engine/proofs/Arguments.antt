@@ -1,5 +1,5 @@
 -- Values of arguments, from left to right.
-use Rattle.std.proofs.Common.{◌≡◌, ℕ, ◌+◌, ◌<◌, List, [], ◌∷◌, ◌++◌, map, Option, Some, refl, sym, ap, ◌∙◌, append_assoc, add-one, get_or, drop, drop-cons, length, suc}
+use Rattle.std.proofs.Common.{◌≡◌, ℕ, ◌+◌, ◌<◌, List, [], ◌∷◌, ◌++◌, map, Option, Some, refl, sym, ap, ◌∙◌, append_assoc, add-one, get_or, drop, drop-cons, length, zero, suc, replicate}
 use Rattle.std.proofs.lemmas.List.{append-nil}
 use Rattle.vf_base.specs.declared.place.Place.{Place}
 use Rattle.vf_tree.specs.Core.{ExpressionTree}
@@ -41,3 +41,8 @@ dropped xs i x is within = drop-cons xs i x within ∙ ap (λ y. y ∷ drop (suc
 -- nothing after no arguments
 pub nothing_more : (locals cells : List (Option Value)) → after_cells cells (evaluate_all locals []) ≡ Gives cells
 nothing_more locals cells = ap Gives (append-nil cells)
+
+-- one copy more
+pub replicate_more : {A : Type 0} (n : ℕ) (x : A) → replicate n x ++ x ∷ [] ≡ replicate (n + 1) x
+replicate_more zero x = refl
+replicate_more (suc n) x = ap (λ xs. x ∷ xs) (replicate_more n x) ∙ ap (λ k. x ∷ replicate k x) (add-one n) ∙ ap (λ k. replicate k x) (sym (add-one (suc n)))

@@ -2,19 +2,23 @@
 
 ghost use Rattle.std.specs.Prelude.{◌≡◌, ◌++◌, ◌-◌, List, map, Some, None, length, replicate, IfOk};
 ghost use Rattle.vf_tree.specs.Core.{Identity};
+ghost use Rattle.vf_model.specs.Values as model;
+ghost use Rattle.vf_model.specs.State.{entered};
 ghost use Rattle.vf_model.specs.Evaluation.{evaluate_all};
-ghost use Rattle.vf_core.specs.Shown.{expressions_of};
+ghost use Rattle.vf_core.specs.Shown.{expressions_of, function_of};
 ghost use Rattle.vf_engine.specs.Values.{cells_of};
+ghost use Rattle.vf_engine.specs.States.{frame_of};
 ghost use Rattle.vf_engine.specs.Effects.{values_or_none};
 
 use crate::expressions::evaluate;
+use crate::state::Frame;
 use crate::value::Value;
 use std::alloc::Global;
 use vf_base::Memory;
-use vf_core::Expression;
+use vf_core::{Expression, Function};
 
 /// The values of arguments, and none where one has a fault.
-fn argument_values(
+pub fn argument_values(
     alloc: Global,
     locals: &[Option<Value>],
     arguments: &[Expression],
@@ -36,12 +40,28 @@ fn unset_after(values: Vec<Option<Value>>, count: usize) -> Result<Vec<Option<Va
     ensures { IfOk result (λ vs. vs.items ≡ values.items ++ replicate (count - length values.items) None) }
 {
     let mut locals = values;
-    let given = locals.len();
-    if given < count {
-        for i in given..count {
-            prove!(given <= i);
-            locals.push(None)?;
-        }
+    let missing = count.saturating_sub(locals.len());
+    for _i in 0..missing {
+        locals.push(None)?;
     }
     Ok(locals)
+}
+
+/// A frame of a call, its other locals unset, before the first step.
+pub fn frame_of_call(
+    number: usize,
+    function: &Function,
+    values: Vec<Option<Value>>,
+    target: Option<u32>,
+) -> Result<Frame, Memory>
+    ensures { IfOk result (λ frame. (names : List Identity) (vs : List model.Value) → cells_of names values.items ≡ map Some vs
+        → frame_of names frame ≡ entered number (function_of names function.now) vs target) }
+{
+    let locals = unset_after(values, function.locals.len())?;
+    Ok(Frame {
+        function: number,
+        step: 0,
+        locals,
+        target,
+    })
 }
