@@ -7,7 +7,10 @@ use vf_base::{IntType, Place};
 #[derive(Debug, Drop)]
 pub enum Expression {
     /// A local, by its number among the locals of the body; the place is its name.
-    Read { local: u32, place: Place },
+    Read {
+        local: u32,
+        place: Place,
+    },
     /// A number.
     Number(i128),
     /// A truth value.

@@ -6,14 +6,12 @@
 #![tactic(auto)]
 
 mod expression;
-
 mod program;
 mod resolve;
 mod step;
 mod words;
 
 pub use expression::Expression;
-
 pub use program::{Program, assemble_unit, resolved};
 pub use resolve::{Resolved, prelude_named, resolve_text, same_name, text_of};
 pub use step::{CoreStep, Function, StructBody, Unit};
