@@ -1,0 +1,4 @@
+pub mod Maps
+pub mod Arguments
+pub mod Placed
+pub mod FreeNumbers
