@@ -13,10 +13,11 @@ use Rattle.vf_safety.specs.Laws.{IsAcceptedProgram}
 abbrev pub somewhere : Place
 somewhere = record { file = 0; line = 1; column = 1 }
 
--- main, and the struct with one field of type int
+-- main's identity
 abbrev pub main_name : Identity
 main_name = codes "one.c#main"
 
+-- the identity of a struct with one field of type int
 abbrev pub box_name : Identity
 box_name = codes "one.c#box"
 
