@@ -10,4 +10,5 @@ pub mod CaseNames
 pub mod Consumes
 pub mod Told
 pub mod Opening
+pub mod Loops
 pub mod Evaluates

@@ -1,14 +1,16 @@
 -- When the body of a function is accepted: a rule for each core step, and rules for what annotations do between them.
-use Rattle.std.specs.Prelude.{◌≡◌, ◌⊎◌, ℕ, zero, suc, ◌≤◌, ◌-◌, ◌≢◌, List, [], ◌∷◌, ◌++◌, map, replicate, length, drop, slice_get, slice_set, Option, Some, None}
+use Rattle.std.specs.Prelude.{◌≡◌, ◌⊎◌, ℕ, zero, suc, pos, ◌≤◌, ◌-◌, ◌≢◌, List, [], ◌∷◌, ◌++◌, map, replicate, length, drop, slice_get, slice_set, Option, Some, None}
 use Rattle.vf_base.specs.declared.place.Place.{Place}
-use Rattle.vf_tree.specs.Core.{Identity, Field, TypeTree, Void, ExpressionTree, Comparison, StepTree, Set, Load, Store, Allocate, Free, Call, If, Return, FunctionTree, ProgramTree, NotEqual}
+use Rattle.vf_base.specs.declared.int_type.IntType.TheVariants as types
+use Rattle.vf_tree.specs.Core.{Identity, Field, TypeTree, Void, Integer, ExpressionTree, Comparison, StepTree, Set, Load, Store, Allocate, Free, Call, If, Return, FunctionTree, ProgramTree, NotEqual, LessEqual}
 use Rattle.vf_model.specs.Accesses.{field_count}
 use Rattle.vf_model.specs.State.{function_named}
-use Rattle.vf_model.specs.PreludeFunctions.{PreludeFunction, prelude_named}
+use Rattle.vf_model.specs.PreludeFunctions.{PreludeFunction, Abort, PutChar, PrintInt, prelude_named}
 use Rattle.vf_meaning.specs.Fractions.{whole}
 use Rattle.vf_meaning.specs.Ghost.{Sort, Name, Pointers, Result, CurrentThread, Variable, Null, Not, Compare, Fraction}
+use Rattle.vf_meaning.specs.Ghost as ghost
 use Rattle.vf_meaning.specs.Kept.{IsFixed}
-use Rattle.vf_meaning.specs.Assertions.{BlockOf, ContractTree, Environment}
+use Rattle.vf_meaning.specs.Assertions.{BlockOf, Assertion, ContractTree, Environment}
 use Rattle.vf_rules.specs.Terms.{Term, stored}
 use Rattle.vf_rules.specs.Terms as terms
 use Rattle.vf_rules.specs.States.{Fact, Holds, OfSort, CellOf, Of, SymbolicChunk, SymbolicState, Entails, Infeasible, assuming, assuming_all, with_chunks}
@@ -19,6 +21,7 @@ use Rattle.vf_rules.specs.Take.{same, Takes, Removes, Changes}
 use Rattle.vf_rules.specs.Consume.{EntailsAll, Consume}
 use Rattle.vf_rules.specs.Laws.{Outcome, IsAmong}
 use Rattle.vf_rules.specs.Predicates.{store_of, AreInhabited, AreSorted, Opens, Closes}
+use Rattle.vf_rules.specs.Loops.{Loop, IsLoop, AreNamesSorted, Enters}
 use Rattle.vf_rules.specs.Evaluate.{Evaluates, EvaluatesAll, IsOfC}
 
 -- the share 1, as a term
@@ -92,32 +95,41 @@ AreFixed k s = (x : Name) (t : Term) → s x ≡ Some t → IsFixed k x
 abbrev pub KeepsFixed : ContractTree → terms.Store → terms.Store → Type 0
 KeepsFixed k s r = (x : Name) (t : Term) → IsFixed k x → r x ≡ Some t → s x ≡ Some t
 
--- A body is accepted from a step on, in a state. `do_` are the rules of core steps, `may_` those of what annotations do, or of a state that cannot be
-pub data Accepts (e : Environment) (p : ProgramTree) (f : FunctionTree) (k : ContractTree) : ℕ → SymbolicState → Type 0 where
-  do_set : {n : ℕ} {st : SymbolicState} (x : ℕ) (a : ExpressionTree) (next : ℕ) (t : Term) → slice_get f.steps n ≡ Some (Set x a next) → Evaluates e st.path st.locals a t
-      → Accepts e p f k next (with_local st x t) → Accepts e p f k n st
-  do_if : {n : ℕ} {st : SymbolicState} (c : Comparison) (a b : ExpressionTree) (yes_step no_step : ℕ) (t u : Term) → slice_get f.steps n ≡ Some (If c a b yes_step no_step)
+-- a term is a byte, which `putchar` asks of its argument
+abbrev pub facts_of_byte : Term → List Fact
+facts_of_byte t = Holds (Compare LessEqual (ghost.Number (pos 0)) t) ∷ Holds (Compare LessEqual t (ghost.Number (pos 255))) ∷ []
+
+-- a loop is one of several
+abbrev pub IsOneOf : Loop → List Loop → Type 0
+IsOneOf loop [] = ⊥
+IsOneOf loop (x ∷ xs) = (x ≡ loop) ⊎ IsOneOf loop xs
+
+-- A body is accepted from a step on, in a state, within loops: at the heads of the first ones it may stop, since they were entered and a core step was done since; at those of the second ones, which have the others too, it may once a core step is done. `do_` are the rules of core steps, `may_` those of what annotations do, of a loop's head, or of a state that cannot be
+pub data Accepts (e : Environment) (p : ProgramTree) (f : FunctionTree) (k : ContractTree) : List Loop → List Loop → ℕ → SymbolicState → Type 0 where
+  do_set : {now soon : List Loop} {n : ℕ} {st : SymbolicState} (x : ℕ) (a : ExpressionTree) (next : ℕ) (t : Term) → slice_get f.steps n ≡ Some (Set x a next) → Evaluates e st.path st.locals a t
+      → Accepts e p f k soon soon next (with_local st x t) → Accepts e p f k now soon n st
+  do_if : {now soon : List Loop} {n : ℕ} {st : SymbolicState} (c : Comparison) (a b : ExpressionTree) (yes_step no_step : ℕ) (t u : Term) → slice_get f.steps n ≡ Some (If c a b yes_step no_step)
       → Evaluates e st.path st.locals a t → Evaluates e st.path st.locals b u → IsOfC e st.path t → IsOfC e st.path u
-      → Accepts e p f k yes_step (assuming st (Holds (Compare c t u))) → Accepts e p f k no_step (assuming st (Holds (Not (Compare c t u)))) → Accepts e p f k n st
-  do_load : {n : ℕ} {st : SymbolicState} (x : ℕ) (a : ExpressionTree) (field : Field) (place : Place) (next : ℕ) (t u content : Term) (c : SymbolicChunk) (others : List SymbolicChunk)
+      → Accepts e p f k soon soon yes_step (assuming st (Holds (Compare c t u))) → Accepts e p f k soon soon no_step (assuming st (Holds (Not (Compare c t u)))) → Accepts e p f k now soon n st
+  do_load : {now soon : List Loop} {n : ℕ} {st : SymbolicState} (x : ℕ) (a : ExpressionTree) (field : Field) (place : Place) (next : ℕ) (t u content : Term) (c : SymbolicChunk) (others : List SymbolicChunk)
       → slice_get f.steps n ≡ Some (Load x a field place next) → Evaluates e st.path st.locals a t
       → Removes c st.chunks others → c.head ≡ CellOf field → c.arguments ≡ Some u ∷ Some content ∷ [] → Entails e st.path (same t u)
-      → Accepts e p f k next (with_local st x content) → Accepts e p f k n st
-  do_store : {n : ℕ} {st : SymbolicState} (a b : ExpressionTree) (field : Field) (place : Place) (next : ℕ) (t u w : Term) (old : Option Term) (c : SymbolicChunk) (others : List SymbolicChunk)
+      → Accepts e p f k soon soon next (with_local st x content) → Accepts e p f k now soon n st
+  do_store : {now soon : List Loop} {n : ℕ} {st : SymbolicState} (a b : ExpressionTree) (field : Field) (place : Place) (next : ℕ) (t u w : Term) (old : Option Term) (c : SymbolicChunk) (others : List SymbolicChunk)
       → slice_get f.steps n ≡ Some (Store a field b place next) → Evaluates e st.path st.locals a t → Evaluates e st.path st.locals b w
       → Takes e st.path all_of_it c st.chunks others → c.head ≡ CellOf field → c.arguments ≡ Some u ∷ old ∷ [] → Entails e st.path (same t u)
       → ((type : TypeTree) → type_of_field p field.structure field.index ≡ Some type → EntailsAll e st.path (facts_of_type type w) × (type ≢ Void))
-      → Accepts e p f k next (with_chunks st (others ++ cell_chunk field t (Some w) ∷ [])) → Accepts e p f k n st
-  do_allocate : {n : ℕ} {st : SymbolicState} (x : ℕ) (g : Identity) (next y : ℕ) → slice_get f.steps n ≡ Some (Allocate x g next) → IsFresh y st
-      → Accepts e p f k next (with_local st x Null)
-      → Accepts e p f k next (with_local (assuming_all (with_chunks st (st.chunks ++ new_chunks g (symbol y) 0 (field_count p g))) (OfSort (symbol y) Pointers ∷ Holds (Compare NotEqual (symbol y) Null) ∷ [])) x (symbol y))
-      → Accepts e p f k n st
-  do_free_null : {n : ℕ} {st : SymbolicState} (a : ExpressionTree) (g : Identity) (place : Place) (next : ℕ) (t : Term) → slice_get f.steps n ≡ Some (Free a g place next)
-      → Evaluates e st.path st.locals a t → Entails e st.path (same t Null) → Accepts e p f k next st → Accepts e p f k n st
-  do_free : {n : ℕ} {st : SymbolicState} (a : ExpressionTree) (g : Identity) (place : Place) (next : ℕ) (t : Term) (left : List SymbolicChunk) → slice_get f.steps n ≡ Some (Free a g place next)
+      → Accepts e p f k soon soon next (with_chunks st (others ++ cell_chunk field t (Some w) ∷ [])) → Accepts e p f k now soon n st
+  do_allocate : {now soon : List Loop} {n : ℕ} {st : SymbolicState} (x : ℕ) (g : Identity) (next y : ℕ) → slice_get f.steps n ≡ Some (Allocate x g next) → IsFresh y st
+      → Accepts e p f k soon soon next (with_local st x Null)
+      → Accepts e p f k soon soon next (with_local (assuming_all (with_chunks st (st.chunks ++ new_chunks g (symbol y) 0 (field_count p g))) (OfSort (symbol y) Pointers ∷ Holds (Compare NotEqual (symbol y) Null) ∷ [])) x (symbol y))
+      → Accepts e p f k now soon n st
+  do_free_null : {now soon : List Loop} {n : ℕ} {st : SymbolicState} (a : ExpressionTree) (g : Identity) (place : Place) (next : ℕ) (t : Term) → slice_get f.steps n ≡ Some (Free a g place next)
+      → Evaluates e st.path st.locals a t → Entails e st.path (same t Null) → Accepts e p f k soon soon next st → Accepts e p f k now soon n st
+  do_free : {now soon : List Loop} {n : ℕ} {st : SymbolicState} (a : ExpressionTree) (g : Identity) (place : Place) (next : ℕ) (t : Term) (left : List SymbolicChunk) → slice_get f.steps n ≡ Some (Free a g place next)
       → Evaluates e st.path st.locals a t → TakesFields e st.path g t 0 (field_count p g) st.chunks left
-      → Accepts e p f k next (with_chunks st left) → Accepts e p f k n st
-  do_call : {n : ℕ} {st : SymbolicState} (target : Option ℕ) (g : Identity) (operands : List ExpressionTree) (place : Place) (next number : ℕ) (callee : FunctionTree) (contract : ContractTree) (ts : List Term) (outs : List Outcome)
+      → Accepts e p f k soon soon next (with_chunks st left) → Accepts e p f k now soon n st
+  do_call : {now soon : List Loop} {n : ℕ} {st : SymbolicState} (target : Option ℕ) (g : Identity) (operands : List ExpressionTree) (place : Place) (next number : ℕ) (callee : FunctionTree) (contract : ContractTree) (ts : List Term) (outs : List Outcome)
       → slice_get f.steps n ≡ Some (Call target g operands place next) → prelude_named g ≡ None → st.names CurrentThread ≡ Some (Variable CurrentThread) → function_named p g ≡ Some number → slice_get p.functions number ≡ Some callee
       → HasContract e callee contract → (callee.signature.result ≡ Void → target ≡ None) → EvaluatesAll e st.path st.locals operands ts → length ts ≡ contract.parameters
       → EntailsAll e st.path (facts_of_types callee.signature.parameters ts) → AreSorted e st.path contract.sorts ts
@@ -125,16 +137,28 @@ pub data Accepts (e : Environment) (p : ProgramTree) (f : FunctionTree) (k : Con
       (y : ℕ) × IsNew y all_of_it s1 [] st1 × AreFixed contract s1
       × Produce e p contract.sorts all_of_it contract.ensures_this (stored s1 Result (symbol y)) (assuming_all st1 (facts_of_result callee.signature.result (symbol y)))
       (λ s2 st2. IsAmong outs s2 (receiving target (symbol y) st2)))
-      → ((s : terms.Store) (su : SymbolicState) → IsAmong outs s su → Accepts e p f k next su) → Accepts e p f k n st
-  do_return : {n : ℕ} {st : SymbolicState} (a : ExpressionTree) (t : Term) → slice_get f.steps n ≡ Some (Return (Some a)) → Evaluates e st.path st.locals a t
+      → ((s : terms.Store) (su : SymbolicState) → IsAmong outs s su → Accepts e p f k soon soon next su) → Accepts e p f k now soon n st
+  do_return : {now soon : List Loop} {n : ℕ} {st : SymbolicState} (a : ExpressionTree) (t : Term) → slice_get f.steps n ≡ Some (Return (Some a)) → Evaluates e st.path st.locals a t
       → EntailsAll e st.path (facts_of_result f.signature.result t) → f.signature.result ≢ Void
-      → Consume e p k.sorts all_of_it k.ensures_this (stored st.names Result t) st (λ s1 st1. (st1.chunks ≡ []) × KeepsFixed k st.names s1) → Accepts e p f k n st
-  do_leave : {n : ℕ} {st : SymbolicState} → slice_get f.steps n ≡ Some (Return None) → f.signature.result ≡ Void
-      → Consume e p k.sorts all_of_it k.ensures_this st.names st (λ s1 st1. (st1.chunks ≡ []) × KeepsFixed k st.names s1) → Accepts e p f k n st
-  may_drop : {n : ℕ} {st : SymbolicState} → Infeasible e st.path → Accepts e p f k n st
-  may_change : {n : ℕ} {st new : SymbolicState} → Changes e st new → Accepts e p f k n new → Accepts e p f k n st
-  may_open : {n : ℕ} {st : SymbolicState} (outs : List Outcome) → Opens e p st outs → ((s : terms.Store) (su : SymbolicState) → IsAmong outs s su → Accepts e p f k n su) → Accepts e p f k n st
-  may_close : {n : ℕ} {st : SymbolicState} (outs : List Outcome) → Closes e p st outs → ((s : terms.Store) (su : SymbolicState) → IsAmong outs s su → Accepts e p f k n su) → Accepts e p f k n st
+      → Consume e p k.sorts all_of_it k.ensures_this (stored st.names Result t) st (λ s1 st1. (st1.chunks ≡ []) × KeepsFixed k st.names s1) → Accepts e p f k now soon n st
+  do_leave : {now soon : List Loop} {n : ℕ} {st : SymbolicState} → slice_get f.steps n ≡ Some (Return None) → f.signature.result ≡ Void
+      → Consume e p k.sorts all_of_it k.ensures_this st.names st (λ s1 st1. (st1.chunks ≡ []) × KeepsFixed k st.names s1) → Accepts e p f k now soon n st
+  do_abort : {now soon : List Loop} {n : ℕ} {st : SymbolicState} (target : Option ℕ) (g : Identity) (place : Place) (next : ℕ) → slice_get f.steps n ≡ Some (Call target g [] place next) → prelude_named g ≡ Some Abort → Accepts e p f k now soon n st
+  do_put_char : {now soon : List Loop} {n : ℕ} {st : SymbolicState} (target : Option ℕ) (g : Identity) (a : ExpressionTree) (place : Place) (next y : ℕ) (t : Term) → slice_get f.steps n ≡ Some (Call target g (a ∷ []) place next) → prelude_named g ≡ Some PutChar
+      → Evaluates e st.path st.locals a t → EntailsAll e st.path (facts_of_byte t) → IsFresh y st
+      → Accepts e p f k soon soon next (receiving target (symbol y) (assuming_all st (facts_of_type (Integer types.Int) (symbol y)))) → Accepts e p f k now soon n st
+  do_print_int : {now soon : List Loop} {n : ℕ} {st : SymbolicState} (target : Option ℕ) (g : Identity) (a : ExpressionTree) (place : Place) (next : ℕ) (t : Term) → slice_get f.steps n ≡ Some (Call target g (a ∷ []) place next) → prelude_named g ≡ Some PrintInt
+      → Evaluates e st.path st.locals a t → Accepts e p f k soon soon next st → Accepts e p f k now soon n st
+  may_drop : {now soon : List Loop} {n : ℕ} {st : SymbolicState} → Infeasible e st.path → Accepts e p f k now soon n st
+  may_change : {now soon : List Loop} {n : ℕ} {st new : SymbolicState} → Changes e st new → Accepts e p f k now soon n new → Accepts e p f k now soon n st
+  may_open : {now soon : List Loop} {n : ℕ} {st : SymbolicState} (outs : List Outcome) → Opens e p st outs → ((s : terms.Store) (su : SymbolicState) → IsAmong outs s su → Accepts e p f k now soon n su) → Accepts e p f k now soon n st
+  may_close : {now soon : List Loop} {n : ℕ} {st : SymbolicState} (outs : List Outcome) → Closes e p st outs → ((s : terms.Store) (su : SymbolicState) → IsAmong outs s su → Accepts e p f k now soon n su) → Accepts e p f k now soon n st
+  may_split : {now soon : List Loop} {n : ℕ} {st : SymbolicState} (t : Term) → Accepts e p f k now soon n (assuming st (Holds t)) → Accepts e p f k now soon n (assuming st (Holds (Not t))) → Accepts e p f k now soon n st
+  may_leak : {now soon : List Loop} {n : ℕ} {st : SymbolicState} (a : Assertion) (sorts : List Sort) (store : terms.Store) (outs : List Outcome) → AreNamesSorted e st.path sorts store → Consume e p sorts all_of_it a store st (IsAmong outs)
+      → ((s : terms.Store) (su : SymbolicState) → IsAmong outs s su → Accepts e p f k now soon n su) → Accepts e p f k now soon n st
+  may_enter : {now soon : List Loop} {n : ℕ} {st : SymbolicState} (loop : Loop) → loop.node ≡ n → IsLoop e p loop → Enters e p loop st
+      → ((s : terms.Store) (su : SymbolicState) → IsAmong loop.outs s su → Accepts e p f k now (loop ∷ soon) n su) → Accepts e p f k now soon n st
+  may_repeat : {now soon : List Loop} {n : ℕ} {st : SymbolicState} (loop : Loop) → IsOneOf loop now → loop.node ≡ n → Enters e p loop st → Accepts e p f k now soon n st
 
 -- n symbols in a row, from a number on
 abbrev pub symbols_from : ℕ → ℕ → List Term
@@ -159,4 +183,4 @@ pub record IsAcceptedFunction (e : Environment) (p : ProgramTree) (f : FunctionT
   pub contract : HasContract e f k
   pub outs : List Outcome
   pub produced : Produce e p k.sorts all_of_it k.requires_this (call_store (parameter_symbols (length f.signature.parameters))) (beginning f k) (IsAmong outs)
-  pub body : (s : terms.Store) (st : SymbolicState) → IsAmong outs s st → Accepts e p f k 0 (record st { names = s })
+  pub body : (s : terms.Store) (st : SymbolicState) → IsAmong outs s st → Accepts e p f k [] [] 0 (record st { names = s })

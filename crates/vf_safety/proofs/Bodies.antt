@@ -1,10 +1,10 @@
 -- An accepted body is safe for every number of steps, where the functions of the program are safe for fewer.
-use Rattle.std.proofs.Common.{◌≡◌, ◌≢◌, ℕ, zero, suc, ◌<◌, ◌==◌, pos, Bool, true, false, cond, not, List, [], ◌∷◌, ◌++◌, length, map, slice_get, slice_set, Option, Some, None, refl, sym, ap, subst, subst₂, ◌∙◌, inl, inr, arith}
+use Rattle.std.proofs.Common.{◌≡◌, ◌≢◌, ℕ, zero, suc, ◌<◌, ◌≤◌, ◌==◌, pos, Bool, true, false, cond, not, List, [], ◌∷◌, ◌++◌, length, map, slice_get, slice_set, Option, Some, None, refl, sym, ap, subst, subst₂, ◌∙◌, inl, inr, arith}
 use Rattle.std.specs.Prelude.{IsTrue}
 use Rattle.std.specs.FinMap as finite
 use Rattle.std.proofs.lemmas.Bool.{cases_Bool}
 use Rattle.vf_base.specs.declared.place.Place.{Place}
-use Rattle.vf_tree.specs.Core.{Identity, Field, TypeTree, Void, ExpressionTree, Comparison, StepTree, Set, Load, Store, Allocate, Free, Call, If, Return, FunctionTree, ProgramTree, NotEqual}
+use Rattle.vf_tree.specs.Core.{Identity, Field, TypeTree, Void, Integer, ExpressionTree, Comparison, StepTree, Set, Load, Store, Allocate, Free, Call, If, Return, FunctionTree, ProgramTree, NotEqual}
 use Rattle.vf_model.specs.declared.words.FaultKind.{FaultKind}
 use Rattle.vf_model.specs.Values.{Dyadic, Value, compares}
 use Rattle.vf_model.specs.Values as values
@@ -19,7 +19,7 @@ use Rattle.vf_model.specs.Steps.{act_of}
 use Rattle.vf_model.specs.PreludeFunctions.{prelude_named}
 use Rattle.vf_meaning.specs.Fractions.{whole, IsPositive}
 use Rattle.vf_meaning.specs.Ghost.{Sort, Pointers, Name, same_name, Numbered, Result, CurrentThread, Variable, Null, Not, Compare}
-use Rattle.vf_meaning.specs.Valuations.{Valuation, bound}
+use Rattle.vf_meaning.specs.Valuations.{Valuation, is_true, bound}
 use Rattle.vf_meaning.specs.GhostValues.{compared}
 use Rattle.vf_meaning.specs.Assertions.{ContractTree, Environment}
 use Rattle.vf_meaning.specs.Sorts.{HasSort, AreOfSorts}
@@ -43,7 +43,17 @@ use Rattle.vf_rules.specs.Consume.{EntailsAll, Consume}
 use Rattle.vf_rules.specs.Laws.{Outcome, IsAmong, Grows, StoreSorted}
 use Rattle.vf_rules.specs.Predicates.{store_of, AreSorted}
 use Rattle.vf_rules.specs.Evaluate.{Evaluates, EvaluatesAll, IsOfC}
-use Rattle.vf_rules.specs.Accept.{all_of_it, receiving, cell_chunk, new_chunks, TakesFields, facts_of_types, facts_of_result, call_store, HasContract, AreFixed, KeepsFixed, Accepts, do_set, do_if, do_load, do_store, do_allocate, do_free_null, do_free, do_call, do_return, do_leave, may_drop, may_change, may_open, may_close}
+use Rattle.vf_rules.specs.Accept.{all_of_it, receiving, cell_chunk, new_chunks, TakesFields, facts_of_types, facts_of_result, call_store, HasContract, AreFixed, KeepsFixed, Accepts, do_set, do_if, do_load, do_store, do_allocate, do_free_null, do_free, do_call, do_return, do_leave, may_drop, may_change, may_open, may_close, IsOneOf, may_enter, may_repeat, may_split, may_leak, do_abort, do_put_char, do_print_int}
+use Rattle.std.specs.Fmt.{signed_decimal}
+use Rattle.vf_base.specs.declared.int_type.IntType.TheVariants as int_types
+use Rattle.vf_model.specs.PreludeFunctions.{Abort, PutChar, PrintInt}
+use Rattle.vf_model.specs.State.{Aborted, after_output}
+use Rattle.vf_model.specs.Values.{number_of}
+use Rattle.vf_model.specs.Calls.{byte_of}
+use Rattle.vf_safety.proofs.Prelude.{prelude_act, one_value, ended_went, output_went, byte_in_range, result_then_step, integer_no_void}
+use Rattle.vf_rules.specs.Loops.{Loop, IsLoop, Enters}
+use Rattle.vf_rules.proofs.Loops.{entering_keeps, store_sorted}
+use Rattle.vf_safety.proofs.Leaks.{leaving_safe}
 use Rattle.vf_rules.specs.Accept as accept
 use Rattle.vf_rules.proofs.Terms.{fresh_store, stored_means, own_symbol, stored_own, stored_other}
 use Rattle.vf_rules.proofs.Stands.{stands_fresh, assuming_all_stands, assuming_stands, chunks_more}
@@ -52,7 +62,7 @@ use Rattle.vf_rules.proofs.Takes.{same_value, takes_parted, removes_parted, chan
 use Rattle.vf_rules.proofs.Consumes.{consumed}
 use Rattle.vf_rules.proofs.Evaluates.{evaluates, evaluates_all}
 use Rattle.vf_rules.proofs.Opening.{opening_keeps, closing_keeps, completed, completed_means, completed_sorted}
-use Rattle.vf_safety.specs.Safe.{Duty, IsShaped, Went, Safe, returned, IsResult, Continues}
+use Rattle.vf_safety.specs.Safe.{Duty, StartsNone, IsShaped, Went, Safe, returned, IsResult, Continues}
 use Rattle.vf_safety.proofs.Steps.{Here, turn_of, apart, together, secure, not_left, went_local, went_over, local_secure, reading_secure, writing_secure, same_place, typed_sum, typed_single, typed_of_left, typed_of_right, set_own, set_other, set_length}
 use Rattle.vf_safety.proofs.Cells.{field_there, the_cell, load_act, store_act, touched, store_unshared, whole_of, written_shaped}
 use Rattle.vf_safety.proofs.Allocations.{new_struct_means, takes_fields, granted_free, struct_shaped, struct_unshared, struct_added, struct_there, free_act, free_null_act, removed_shaped, removed_unshared, freed_owned}
@@ -161,6 +171,25 @@ module _ (e : Environment) (p : ProgramTree) (t : ℕ) (duty : Duty) (f : Functi
     thread = r.thread;
     typed = r.typed;
     sums = r.sums;
+    continues = r.continues;
+    others = r.others;
+  }
+
+  -- the same frame with less, in a state that stands for what is left
+  leaves_less : (n : ℕ) (st new : SymbolicState) (m : ℕ) (frame : Frame) (callers : Thread) (own less : Part) → (r : Ready n st m frame callers own) → (v : Valuation) (q : Part) → StandsFor e v new frame.locals r.names q
+      → IsTypedPart e p less → IsSum q r.kept less → Ready n new m frame callers less
+  leaves_less n st new m frame callers own less r v q stands typed sums = record {
+    symbols = v;
+    names = r.names;
+    part = q;
+    kept = r.kept;
+    function = r.function;
+    step = r.step;
+    stands = stands;
+    of_sorts = r.of_sorts;
+    thread = r.thread;
+    typed = typed;
+    sums = sums;
     continues = r.continues;
     others = r.others;
   }
@@ -693,7 +722,7 @@ module _ (e : Environment) (p : ProgramTree) (t : ℕ) (duty : Duty) (f : Functi
       (y : ℕ) × IsNew y all_of_it s1 [] st1 × AreFixed contract s1
       × Produce e p contract.sorts all_of_it contract.ensures_this (stored s1 Result (symbol y)) (assuming_all st1 (facts_of_result callee.signature.result (symbol y)))
       (λ s2 st2. IsAmong outs s2 (receiving target (symbol y) st2)))
-      → ((s : terms.Store) (su : SymbolicState) → IsAmong outs s su → (j : ℕ) (fr : Frame) (own2 : Part) → Ready next su j fr callers own2 → Safe e p t duty j (fr ∷ callers) own2)
+      → ((s : terms.Store) (su : SymbolicState) → IsAmong outs s su → (j : ℕ) → j < suc m → (fr : Frame) (own2 : Part) → Ready next su j fr callers own2 → Safe e p t duty j (fr ∷ callers) own2)
       → Safe e p t duty (suc m) (frame ∷ callers) own
   unfolding back_to
   call_safe n st m frame callers own target g operands place next number callee contract ts outs r is outside of_thread named callee_is has to ev count types sorted consume go s rest all going frames sums fits typed shaped =
@@ -721,7 +750,7 @@ module _ (e : Environment) (p : ProgramTree) (t : ℕ) (duty : Duty) (f : Functi
       let callee_safe = r.others m (omega arith) number callee contract callee_is has ws names (at_step frame next ∷ callers) target c.off inner.0 own (mapped_long v ts ∙ count)
       (types_back e v callee.signature.parameters ts (all_entailed e st.path _ types v (r.stands).path)) begins thread_is (completed_sorted e c.under contract.sorts has.inhabited c.store c.sorted)
       (c.depth, c.satisfies names means) r.typed inner.2 continues in
-      local_secure e p t duty (Safe e p t duty m) s f frame callers (Call target g operands place next) (entered number callee ws target ∷ at_step frame next ∷ callers) own rest all at outside tt
+      local_secure e p t duty (Safe e p t duty m) s f frame callers (Call target g operands place next) (entered number callee ws target ∷ at_step frame next ∷ callers) own rest all at (subst StartsNone (sym outside) tt) tt
       (call_act p s t frame callers target g operands place next number callee ws value outside named callee_is) sums fits typed shaped callee_safe
     where
       no_callers : {x : Frame} {xs : Thread} → (x ∷ xs) ≡ [] → ⊥
@@ -735,7 +764,7 @@ module _ (e : Environment) (p : ProgramTree) (t : ℕ) (duty : Duty) (f : Functi
 
       after_call : (n : ℕ) (st : SymbolicState) (m : ℕ) (frame : Frame) (callers : Thread) (own : Part) (target : Option ℕ) (next : ℕ) (callee : FunctionTree) (contract : ContractTree) (outs : List Outcome) (r : Ready n st (suc m) frame callers own)
           → (callee.signature.result ≡ Void → target ≡ None)
-          → ((s : terms.Store) (su : SymbolicState) → IsAmong outs s su → (j : ℕ) (fr : Frame) (own2 : Part) → Ready next su j fr callers own2 → Safe e p t duty j (fr ∷ callers) own2)
+          → ((s : terms.Store) (su : SymbolicState) → IsAmong outs s su → (j : ℕ) → j < suc m → (fr : Frame) (own2 : Part) → Ready next su j fr callers own2 → Safe e p t duty j (fr ∷ callers) own2)
           → (u : Valuation) (left : Part) (s1 : terms.Store) (st1 : SymbolicState) (y : ℕ) (names : Valuation) → IsNew y all_of_it s1 [] st1 → AreFixed contract s1 → StoreMeans e u s1 names
           → Produce e p contract.sorts all_of_it contract.ensures_this (stored s1 Result (symbol y)) (assuming_all st1 (facts_of_result callee.signature.result (symbol y))) (λ s2 st2. IsAmong outs s2 (receiving target (symbol y) st2))
           → StandsFor e u st1 frame.locals r.names left → (beside0 : Part) → IsSum left r.kept beside0
@@ -755,33 +784,141 @@ module _ (e : Environment) (p : ProgramTree) (t : ℕ) (duty : Duty) (f : Functi
           (λ s2 st2. IsAmong outs s2 (receiving target (symbol y) st2)) produce v2 (with_result w result) q2 left inside.0 stands2 means2 (with_result_sorted w contract.sorts result ensured.sorts) refl positive_whole (ensured.satisfies).1
           (typed_of_left e p q2 beside0 own2 sums2 typed2) inside.1 in
           let symbol_is : (x : Value) → result ≡ Some x → value_in e o.under (symbol y) ≡ x = λ x h. o.means Result (symbol y) (o.grows Result (symbol y) (stored_own s1 Result (symbol y))) ∙ result_bound w result x h in
-          go o.store (receiving target (symbol y) o.state) o.holds j (state.with_result (at_step frame next) target result) own2
+          go o.store (receiving target (symbol y) o.state) o.holds j l (state.with_result (at_step frame next) target result) own2
           (resumed n next st o.state m j frame callers own own2 r target result (symbol y) callee.signature.result o.under inside.0 l typed_result to symbol_is o.stands typed2 inside.2)
 
+  -- ---- calls of the prelude that touch no memory
+  abort_safe : (n : ℕ) (st : SymbolicState) (m : ℕ) (frame : Frame) (callers : Thread) (own : Part) (target : Option ℕ) (g : Identity) (place : Place) (next : ℕ) → (r : Ready n st (suc m) frame callers own) → slice_get f.steps n ≡ Some (Call target g [] place next)
+      → prelude_named g ≡ Some Abort → Safe e p t duty (suc m) (frame ∷ callers) own
+  abort_safe n st m frame callers own target g place next r is named s rest all going frames sums fits typed shaped =
+      let at = here n st (suc m) frame callers own s (Call target g [] place next) r is going frames in
+      secure e p t duty (Safe e p t duty m) s f frame callers (Call target g [] place next) own rest (Goes (ended s Aborted)) at (subst StartsNone (sym named) tt)
+      (prelude_act p s t frame callers target g [] place next Abort [] refl named)
+      (λ kind place h. goes_fault h) (λ touch new c0 l h. goes_touch h)
+      (λ grant. ended_went e p t duty (Safe e p t duty m) s (frame ∷ callers) own rest all Aborted sums fits typed shaped frames (λ result back. not_left e p t duty (Safe e p t duty m) s f frame callers (Call target g [] place next) at tt result back))
+
+  print_safe : (n : ℕ) (st : SymbolicState) (m : ℕ) (frame : Frame) (callers : Thread) (own : Part) (target : Option ℕ) (g : Identity) (a : ExpressionTree) (place : Place) (next : ℕ) (u : Term) → (r : Ready n st (suc m) frame callers own)
+      → slice_get f.steps n ≡ Some (Call target g (a ∷ []) place next) → prelude_named g ≡ Some PrintInt → Evaluates e st.path st.locals a u
+      → (Ready next st m (at_step frame next) callers own → Safe e p t duty m (at_step frame next ∷ callers) own)
+      → Safe e p t duty (suc m) (frame ∷ callers) own
+  print_safe n st m frame callers own target g a place next u r is named ev go s rest all going frames sums fits typed shaped =
+      let v = r.symbols in
+      let w = value_in e v u in
+      let at = here n st (suc m) frame callers own s (Call target g (a ∷ []) place next) r is going frames in
+      let value = one_value frame.locals a w (evaluates e v st.path st.locals frame.locals a u ev (r.stands).path (r.stands).locals_mean) in
+      let bytes = signed_decimal (number_of w) ++ 10 ∷ [] in
+      secure e p t duty (Safe e p t duty m) s f frame callers (Call target g (a ∷ []) place next) own rest (Goes (with_frames (after_output (turn_of s t frame callers) bytes) (at_step frame next ∷ callers))) at (subst StartsNone (sym named) tt)
+      (prelude_act p s t frame callers target g (a ∷ []) place next PrintInt (w ∷ []) value named)
+      (λ kind place h. goes_fault h) (λ touch new c0 l h. goes_touch h)
+      (λ grant. output_went e p t duty (Safe e p t duty m) s frame callers (at_step frame next ∷ callers) bytes own rest all sums fits typed shaped frames
+      (go (later n next st st m frame callers own own r v frame.locals r.part r.stands r.typed r.sums))
+      (λ result back. not_left e p t duty (Safe e p t duty m) s f frame callers (Call target g (a ∷ []) place next) at tt result back))
+
+  put_safe : (n : ℕ) (st : SymbolicState) (m : ℕ) (frame : Frame) (callers : Thread) (own : Part) (target : Option ℕ) (g : Identity) (a : ExpressionTree) (place : Place) (next y : ℕ) (u : Term) → (r : Ready n st (suc m) frame callers own)
+      → slice_get f.steps n ≡ Some (Call target g (a ∷ []) place next) → prelude_named g ≡ Some PutChar → Evaluates e st.path st.locals a u → IsFresh y st
+      → ((w : Value) → Ready next (receiving target (symbol y) (assuming_all st (facts_of_type (Integer int_types.Int) (symbol y)))) m (back_to frame next target (Some w)) callers own → Safe e p t duty m (back_to frame next target (Some w) ∷ callers) own)
+      → Safe e p t duty (suc m) (frame ∷ callers) own
+  unfolding back_to
+  put_safe n st m frame callers own target g a place next y u r is named ev fresh go s rest all going frames sums fits typed shaped =
+      let v = r.symbols in
+      let w = value_in e v u in
+      let at = here n st (suc m) frame callers own s (Call target g (a ∷ []) place next) r is going frames in
+      let value = one_value frame.locals a w (evaluates e v st.path st.locals frame.locals a u ev (r.stands).path (r.stands).locals_mean) in
+      let byte = byte_of (number_of w) in
+      let given = values.Number (pos byte) in
+      let v2 = bound v (Numbered y) given in
+      let own_is : value_in e v2 (symbol y) ≡ given = own_symbol v y given in
+      let stands2 = assuming_all_stands e v2 st frame.locals r.names r.part _ (type_met e v2 (Integer int_types.Int) (symbol y) given own_is (byte_in_range (number_of w))) (stands_fresh e v y given st frame.locals r.names r.part fresh r.stands) in
+      let ready = resumed n next st (assuming_all st (facts_of_type (Integer int_types.Int) (symbol y))) m m frame callers own own r target (Some given) (symbol y) (Integer int_types.Int) v2 r.part (omega arith) (byte_in_range (number_of w)) (λ h. absurd (integer_no_void h))
+      (λ x h. own_is ∙ some_same h) stands2 r.typed r.sums in
+      secure e p t duty (Safe e p t duty m) s f frame callers (Call target g (a ∷ []) place next) own rest (Goes (with_frames (after_output (turn_of s t frame callers) (byte ∷ [])) (at_step (state.with_result frame target (Some given)) next ∷ callers))) at (subst StartsNone (sym named) tt)
+      (prelude_act p s t frame callers target g (a ∷ []) place next PutChar (w ∷ []) value named)
+      (λ kind place h. goes_fault h) (λ touch new c0 l h. goes_touch h)
+      (λ grant. output_went e p t duty (Safe e p t duty m) s frame callers (at_step (state.with_result frame target (Some given)) next ∷ callers) (byte ∷ []) own rest all sums fits typed shaped frames
+      (subst (λ z. Safe e p t duty m (z ∷ callers) own) (result_then_step frame next target given) (go given ready))
+      (λ result back. not_left e p t duty (Safe e p t duty m) s f frame callers (Call target g (a ∷ []) place next) at tt result back))
+
+  -- ---- loops
+  -- from a loop's head on a frame is safe for n steps, whichever outcome of producing the invariant stands for it
+  abbrev pub HeadSafe : Loop → ℕ → Type 0
+  HeadSafe loop m =
+      (s : terms.Store) (su : SymbolicState) → IsAmong loop.outs s su → (frame : Frame) (callers : Thread) (own : Part) → Ready loop.node su m frame callers own → Safe e p t duty m (frame ∷ callers) own
+
+  -- each of several loops is well made, and from its head on a frame is safe for every number of steps below n
+  abbrev pub HeadsSafe : List Loop → ℕ → Type 0
+  HeadsSafe loops n = (loop : Loop) → IsOneOf loop loops → IsLoop e p loop × ((j : ℕ) → j < n → HeadSafe loop j)
+
+  heads_below : (loops : List Loop) (n m : ℕ) → n ≤ m → HeadsSafe loops m → HeadsSafe loops n
+  heads_below loops n m l h loop one = let x = h loop one in (x.0, λ j i. x.1 j (omega (arith, l, i)))
+
+  heads_more : (loop : Loop) (loops : List Loop) (n : ℕ) → IsLoop e p loop → ((j : ℕ) → j < n → HeadSafe loop j) → HeadsSafe loops n → HeadsSafe (loop ∷ loops) n
+  heads_more loop loops n made own h x (inl same) = subst (λ z. IsLoop e p z × ((j : ℕ) → j < n → HeadSafe z j)) same (made, own)
+  heads_more loop loops n made own h x (inr one) = h x one
+
+  -- a head that is safe for so many steps where it is for fewer is safe for all
+  heads_by_steps : (loop : Loop) (m : ℕ) → ((j : ℕ) → j < m → ((i : ℕ) → i < j → HeadSafe loop i) → HeadSafe loop j) → (n : ℕ) → n ≤ m → (j : ℕ) → j < n → HeadSafe loop j
+  heads_by_steps loop m again zero l j i = absurd (nothing_below j i)
+    where
+      nothing_below : (j : ℕ) → j < 0 → ⊥
+      nothing_below j i = omega (arith, i)
+  heads_by_steps loop m again (suc n) l j i =
+      again j (omega (arith, l, i)) (λ b c. heads_by_steps loop m again n (omega (arith, l)) b (omega (arith, i, c)))
+
+  at_head : (n node : ℕ) (st : SymbolicState) (m : ℕ) (frame : Frame) (callers : Thread) (own : Part) → node ≡ n → Ready n st m frame callers own → Ready node st m frame callers own
+  at_head n node st m frame callers own same r = subst (λ z. Ready z st m frame callers own) (sym same) r
+
   -- ---- the whole body
-  pub body_safe : {n : ℕ} {st : SymbolicState} → Accepts e p f k n st → (m : ℕ) (frame : Frame) (callers : Thread) (own : Part) → Ready n st m frame callers own → Safe e p t duty m (frame ∷ callers) own
-  body_safe d zero frame callers own r = tt
-  body_safe {n} {st} (do_set x a next u is ev go) (suc m) frame callers own r = set_safe n st m frame callers own x a next u r is ev (λ k0. body_safe go m _ callers own k0)
-  body_safe {n} {st} (do_if c a b y_step n_step u w is ea eb ca cb yes_go no_go) (suc m) frame callers own r =
-      if_safe n st m frame callers own c a b y_step n_step u w r is ea eb ca cb (λ k0. body_safe yes_go m _ callers own k0) (λ k0. body_safe no_go m _ callers own k0)
-  body_safe {n} {st} (do_load x a field place next u z content c others is ev taken head arguments equal go) (suc m) frame callers own r =
-      load_safe n st m frame callers own x a field place next u z content c others r is ev taken head arguments equal (λ k0. body_safe go m _ callers own k0)
-  body_safe {n} {st} (do_store a b field place next u z w old c others is ea eb taken head arguments equal types go) (suc m) frame callers own r =
-      store_safe n st m frame callers own a b field place next u z w old c others r is ea eb taken head arguments equal types (λ own' k0. body_safe go m _ callers own' k0)
-  body_safe {n} {st} (do_allocate x g next y is fresh denied_go granted_go) (suc m) frame callers own r =
-      allocate_safe n st m frame callers own x g next y r is fresh (λ k0. body_safe denied_go m _ callers own k0) (λ b own' k0. body_safe granted_go m _ callers own' k0)
-  body_safe {n} {st} (do_free_null a g place next u is ev null go) (suc m) frame callers own r = free_null_safe n st m frame callers own a g place next u r is ev null (λ k0. body_safe go m _ callers own k0)
-  body_safe {n} {st} (do_free a g place next u left is ev taken go) (suc m) frame callers own r = free_safe n st m frame callers own a g place next u left r is ev taken (λ own' k0. body_safe go m _ callers own' k0)
-  body_safe {n} {st} (do_call target g operands place next number callee contract ts outs is outside of_thread named callee_is has to ev count types sorted consume go) (suc m) frame callers own r =
-      call_safe n st m frame callers own target g operands place next number callee contract ts outs r is outside of_thread named callee_is has to ev count types sorted consume (λ s su among j fr own2 k0. body_safe (go s su among) j fr callers own2 k0)
-  body_safe {n} {st} (do_return a u is ev facts value_type consume) (suc m) frame callers own r = return_safe n st m frame callers own a u r is ev facts value_type consume
-  body_safe {n} {st} (do_leave is no_value consume) (suc m) frame callers own r = leave_safe n st m frame callers own r is no_value consume
-  body_safe {n} {st} (may_drop never) (suc m) frame callers own r = absurd (never.by r.symbols (r.stands).path)
-  body_safe {n} {st} (may_change {new} changed go) (suc m) frame callers own r =
-      body_safe go (suc m) frame callers own (restated n st new (suc m) frame callers own r r.symbols (changes_stand e r.symbols changed frame.locals r.names r.part r.stands))
-  body_safe {n} {st} (may_open outs opens go) (suc m) frame callers own r =
+  pub body_safe : {now soon : List Loop} {n : ℕ} {st : SymbolicState} → Accepts e p f k now soon n st → (m : ℕ) → HeadsSafe now (suc m) → HeadsSafe soon m → (frame : Frame) (callers : Thread) (own : Part) → Ready n st m frame callers own → Safe e p t duty m (frame ∷ callers) own
+  body_safe d zero h i frame callers own r = tt
+  body_safe {now} {soon} {n} {st} (do_set x a next u is ev go) (suc m) h i frame callers own r = set_safe n st m frame callers own x a next u r is ev (λ k0. body_safe go m i (heads_below soon m (suc m) (omega arith) i) _ callers own k0)
+  body_safe {now} {soon} {n} {st} (do_if c a b y_step n_step u w is ea eb ca cb yes_go no_go) (suc m) h i frame callers own r =
+      if_safe n st m frame callers own c a b y_step n_step u w r is ea eb ca cb (λ k0. body_safe yes_go m i (heads_below soon m (suc m) (omega arith) i) _ callers own k0) (λ k0. body_safe no_go m i (heads_below soon m (suc m) (omega arith) i) _ callers own k0)
+  body_safe {now} {soon} {n} {st} (do_load x a field place next u z content c others is ev taken head arguments equal go) (suc m) h i frame callers own r =
+      load_safe n st m frame callers own x a field place next u z content c others r is ev taken head arguments equal (λ k0. body_safe go m i (heads_below soon m (suc m) (omega arith) i) _ callers own k0)
+  body_safe {now} {soon} {n} {st} (do_store a b field place next u z w old c others is ea eb taken head arguments equal types go) (suc m) h i frame callers own r =
+      store_safe n st m frame callers own a b field place next u z w old c others r is ea eb taken head arguments equal types (λ own' k0. body_safe go m i (heads_below soon m (suc m) (omega arith) i) _ callers own' k0)
+  body_safe {now} {soon} {n} {st} (do_allocate x g next y is fresh denied_go granted_go) (suc m) h i frame callers own r =
+      allocate_safe n st m frame callers own x g next y r is fresh (λ k0. body_safe denied_go m i (heads_below soon m (suc m) (omega arith) i) _ callers own k0) (λ b own' k0. body_safe granted_go m i (heads_below soon m (suc m) (omega arith) i) _ callers own' k0)
+  body_safe {now} {soon} {n} {st} (do_free_null a g place next u is ev null go) (suc m) h i frame callers own r = free_null_safe n st m frame callers own a g place next u r is ev null (λ k0. body_safe go m i (heads_below soon m (suc m) (omega arith) i) _ callers own k0)
+  body_safe {now} {soon} {n} {st} (do_free a g place next u left is ev taken go) (suc m) h i frame callers own r = free_safe n st m frame callers own a g place next u left r is ev taken (λ own' k0. body_safe go m i (heads_below soon m (suc m) (omega arith) i) _ callers own' k0)
+  body_safe {now} {soon} {n} {st} (do_call target g operands place next number callee contract ts outs is outside of_thread named callee_is has to ev count types sorted consume go) (suc m) h i frame callers own r =
+      call_safe n st m frame callers own target g operands place next number callee contract ts outs r is outside of_thread named callee_is has to ev count types sorted consume (λ s su among j l fr own2 k0. body_safe (go s su among) j (heads_below soon (suc j) (suc m) (omega (arith, l)) i) (heads_below soon j (suc m) (omega (arith, l)) i) fr callers own2 k0)
+  body_safe {now} {soon} {n} {st} (do_return a u is ev facts value_type consume) (suc m) h i frame callers own r = return_safe n st m frame callers own a u r is ev facts value_type consume
+  body_safe {now} {soon} {n} {st} (do_leave is no_value consume) (suc m) h i frame callers own r = leave_safe n st m frame callers own r is no_value consume
+  body_safe {now} {soon} {n} {st} (may_drop never) (suc m) h i frame callers own r = absurd (never.by r.symbols (r.stands).path)
+  body_safe {now} {soon} {n} {st} (may_change {new} changed go) (suc m) h i frame callers own r =
+      body_safe go (suc m) h i frame callers own (restated n st new (suc m) frame callers own r r.symbols (changes_stand e r.symbols changed frame.locals r.names r.part r.stands))
+  body_safe {now} {soon} {n} {st} (may_open outs opens go) (suc m) h i frame callers own r =
       let o = opening_keeps e p st outs opens frame.locals r.names r.symbols r.part r.stands (typed_of_left e p r.part r.kept own r.sums r.typed) in
-      body_safe (go o.store o.state o.among) (suc m) frame callers own (restated n st o.state (suc m) frame callers own r o.under o.stands)
-  body_safe {n} {st} (may_close outs closes go) (suc m) frame callers own r =
+      body_safe (go o.store o.state o.among) (suc m) h i frame callers own (restated n st o.state (suc m) frame callers own r o.under o.stands)
+  body_safe {now} {soon} {n} {st} (may_close outs closes go) (suc m) h i frame callers own r =
       let o = closing_keeps e p st outs closes frame.locals r.names r.symbols r.part r.stands in
-      body_safe (go o.store o.state o.among) (suc m) frame callers own (restated n st o.state (suc m) frame callers own r o.under o.stands)
+      body_safe (go o.store o.state o.among) (suc m) h i frame callers own (restated n st o.state (suc m) frame callers own r o.under o.stands)
+  body_safe {now} {soon} {n} {st} (may_enter loop at made enters go) (suc m) h i frame callers own r =
+      let o = entering_keeps e p loop st made enters frame.locals r.names r.symbols r.part r.stands (typed_of_left e p r.part r.kept own r.sums r.typed) in
+      let again : (j : ℕ) → j < suc (suc m) → ((b : ℕ) → b < j → HeadSafe loop b) → HeadSafe loop j = λ j l before s su among fr cs ow k0.
+      body_safe (go s su among) j (heads_below now (suc j) (suc (suc m)) (omega (arith, l)) h) (heads_more loop soon j made before (heads_below soon j (suc m) (omega (arith, l)) i)) fr cs ow
+      (subst (λ z. Ready z su j fr cs ow) at k0) in
+      let safe = heads_by_steps loop (suc (suc m)) again (suc (suc m)) (omega arith) (suc m) (omega arith) in
+      safe o.store o.state o.among frame callers own (at_head n loop.node o.state (suc m) frame callers own at (restated n st o.state (suc m) frame callers own r o.under o.stands))
+  body_safe {now} {soon} {n} {st} (may_repeat loop one at enters) (suc m) h i frame callers own r =
+      let x = h loop one in
+      let o = entering_keeps e p loop st x.0 enters frame.locals r.names r.symbols r.part r.stands (typed_of_left e p r.part r.kept own r.sums r.typed) in
+      x.1 (suc m) (omega arith) o.store o.state o.among frame callers own (at_head n loop.node o.state (suc m) frame callers own at (restated n st o.state (suc m) frame callers own r o.under o.stands))
+  body_safe {now} {soon} {n} {st} (may_split u yes_go no_go) (suc m) h i frame callers own r =
+      let v = r.symbols in
+      elim (cases_Bool (is_true (value_in e v u))) [
+        | inl yes1 ↦ body_safe yes_go (suc m) h i frame callers own (restated n st (assuming st (Holds u)) (suc m) frame callers own r v (assuming_stands e v st frame.locals r.names r.part (Holds u) yes1 r.stands))
+        | inr no1 ↦ body_safe no_go (suc m) h i frame callers own (restated n st (assuming st (Holds (Not u))) (suc m) frame callers own r v (assuming_stands e v st frame.locals r.names r.part (Holds (Not u)) (ap not no1) r.stands))
+      ]
+  body_safe {now} {soon} {n} {st} (may_leak a sorts store outs of_sorts consume go) (suc m) h i frame callers own r =
+      let c = consumed e p sorts all_of_it whole frame.locals r.names a store st (IsAmong outs) consume r.symbols r.part r.stands (store_sorted e r.symbols st.path sorts store of_sorts (r.stands).path) refl in
+      let less = apart c.off c.left r.part r.kept own c.sums r.sums in
+      leaving_safe e p t duty (suc m) (frame ∷ callers) c.off less.0 own less.2
+      (body_safe (go c.store c.state c.holds) (suc m) h i frame callers less.0
+      (leaves_less n st c.state (suc m) frame callers own less.0 r c.under c.left c.stands (typed_of_right e p c.off less.0 own less.2 r.typed) less.1))
+  body_safe {now} {soon} {n} {st} (do_abort target g place next is named) (suc m) h i frame callers own r = abort_safe n st m frame callers own target g place next r is named
+  body_safe {now} {soon} {n} {st} (do_put_char target g a place next y u is named ev byte fresh go) (suc m) h i frame callers own r =
+      put_safe n st m frame callers own target g a place next y u r is named ev fresh (λ w k0. body_safe go m i (heads_below soon m (suc m) (omega arith) i) _ callers own k0)
+  body_safe {now} {soon} {n} {st} (do_print_int target g a place next u is named ev go) (suc m) h i frame callers own r =
+      print_safe n st m frame callers own target g a place next u r is named ev (λ k0. body_safe go m i (heads_below soon m (suc m) (omega arith) i) _ callers own k0)

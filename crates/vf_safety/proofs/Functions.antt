@@ -124,7 +124,7 @@ module _ (e : Environment) (p : ProgramTree) (t : ℕ) (duty : Duty) where
       let o = produced e p k.sorts all_of_it whole required.0 (locals_of f arguments) w k.requires_this (call_store (parameter_symbols (length f.signature.parameters))) (beginning f k) (IsAmong accepted.outs) accepted.produced
       w w q nothing q (begins_stand e f k arguments w count may begins of_sorts) (begins_mean e w (length f.signature.parameters)) of_sorts refl positive_whole required.1 (typed_of_left e p q r own sums typed) (neutral q) in
       let stands = o.stands in
-      body_safe e p t duty f k (accepted.body o.store o.state o.holds) n (entered number f arguments target) callers own
+      body_safe e p t duty f k (accepted.body o.store o.state o.holds) n (λ loop one. absurd one) (λ loop one. absurd one) (entered number f arguments target) callers own
       (record {
         symbols = o.under;
         names = w;

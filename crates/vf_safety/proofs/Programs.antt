@@ -38,7 +38,7 @@ use Rattle.vf_rules.specs.Accept.{all_of_it, call_store}
 use Rattle.vf_rules.proofs.Terms.{stored_own, stored_other}
 use Rattle.vf_rules.proofs.Consumes.{consumed}
 use Rattle.vf_rules.proofs.Opening.{completed, completed_means, completed_sorted}
-use Rattle.vf_safety.specs.Safe.{Duty, event_of, IsShared, IsShaped, Went, Secure, Safe}
+use Rattle.vf_safety.specs.Safe.{Duty, StartsNone, event_of, IsShared, IsShaped, Went, Secure, Safe}
 use Rattle.vf_safety.specs.Laws.{AreOfTypes, MayCall, before_main, IsAcceptedProgram, AcceptedProgramsAreSafe}
 use Rattle.vf_safety.proofs.Bodies.{nothing_left}
 use Rattle.vf_safety.proofs.Functions.{begins_mean, accepted_threads_are_safe}
@@ -362,15 +362,15 @@ module _ (e : Environment) (p : ProgramTree) (duty : Duty) where
   calls_no_pointer m s w (suc u) frames is f frame callers target pointer signature operands place following at = none_some (sym (other_thread (suc m) s w u) ∙ at.frames)
 
   calls_unknown : (m : ℕ) (s : State) (w : World (suc m) s) (t : ℕ) (frames : Thread) → w.frames ≡ frames → (f : FunctionTree) (frame : Frame) (callers : Thread) (target : Option ℕ) (g : Identity) (operands : List ExpressionTree) (place : Place) (following : ℕ)
-      → IsAt p s t f frame callers (Call target g operands place following) → prelude_named g ≡ None
+      → IsAt p s t f frame callers (Call target g operands place following) → StartsNone (prelude_named g)
   calls_unknown m s w zero [] is f frame callers target g operands place following at = cons_nil (some_same (sym at.frames ∙ first_thread (suc m) s w) ∙ is)
   calls_unknown m s w zero (x ∷ xs) is f frame callers target g operands place following at =
       (secure_of m s w x xs (going_of s.end _ at.steps) is).unstarted f frame callers target g operands place following at
   calls_unknown m s w (suc u) frames is f frame callers target g operands place following at = none_some (sym (other_thread (suc m) s w u) ∙ at.frames)
 
-  starts_known : (g type : Identity) → StartsWith g type → prelude_named g ≡ None → ⊥
-  starts_known g type plain h = some_none h
-  starts_known g type joinable h = some_none h
+  starts_known : (g type : Identity) → StartsWith g type → StartsNone (prelude_named g) → ⊥
+  starts_known g type plain h = h
+  starts_known g type joinable h = h
 
   waits_no_fault : (kind : FaultKind) (place : Place) → Waits ≡ Faults kind place → ⊥
   waits_no_fault kind place h = cc

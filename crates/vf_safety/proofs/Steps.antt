@@ -18,7 +18,7 @@ use Rattle.vf_meaning.specs.ShareOuts.{location_in, OwnsFor}
 use Rattle.vf_meaning.specs.Kept.{IsAt, Returns, Ensures, depth}
 use Rattle.vf_meaning.proofs.Parts.{sums_turn, sums_regroup, nothing_is_neutral, in_left, in_right, in_either, single_only}
 use Rattle.vf_rules.specs.Types.{IsTypedContent, IsTypedPart}
-use Rattle.vf_safety.specs.Safe.{Duty, event_of, IsShared, IsShaped, Went, Secure}
+use Rattle.vf_safety.specs.Safe.{Duty, event_of, StartsNone, IsShared, IsShaped, Went, Secure}
 
 some_same : {A : Type 0} {x y : A} → Some x ≡ Some y → x ≡ y
 some_same e = cc
@@ -96,7 +96,7 @@ together a r rest f all h k =
 -- ---- steps that are no call through a pointer, start no thread and do not return
 abbrev pub IsDirect : StepTree → Type 0
 IsDirect (CallPointer target pointer signature operands place next) = ⊥
-IsDirect (Call target g operands place next) = prelude_named g ≡ None
+IsDirect (Call target g operands place next) = StartsNone (prelude_named g)
 IsDirect _ = Unit {0}
 
 abbrev pub IsInside : StepTree → Type 0

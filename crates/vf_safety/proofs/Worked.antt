@@ -18,6 +18,7 @@ use Rattle.vf_rules.specs.Take.{same, takes_all, takes_later, removes_here, remo
 use Rattle.vf_rules.specs.Consume.{EntailsAll}
 use Rattle.vf_rules.specs.Laws.{IsAmong}
 use Rattle.vf_rules.specs.Evaluate as evaluates
+use Rattle.vf_rules.specs.Loops.{Loop}
 use Rattle.vf_rules.specs.Accept.{all_of_it, cell_chunk, block_chunk, call_store, with_local, beginning, HasContract, KeepsFixed, Accepts, do_if, do_load, do_store, do_allocate, do_free, do_return, may_drop, IsAcceptedFunction}
 use Rattle.vf_rules.proofs.Terms.{stored_own}
 use Rattle.vf_rules.proofs.Takes.{equal_met}
@@ -84,21 +85,21 @@ result_bound : (s : terms.Store) (t : Term) (x : Name) → (Result ≡ x) ⊎ �
 result_bound s t x (inl is) = (t, subst (λ z. stored s Result t z ≡ Some t) is (stored_own s Result t))
 result_bound s t x (inr never) = absurd never
 
-returns_seven : (n : ℕ) (st : SymbolicState) (a : core.ExpressionTree) → slice_get box_main.steps n ≡ Some (core.Return (Some a)) → evaluates.Evaluates box_environment st.path st.locals a (Number (pos 7)) → st.names ≡ call_store [] → st.chunks ≡ []
-    → Accepts box_environment box_program box_main box_contract n st
-returns_seven n st a is ev names chunks =
-    do_return {n = n} {st = st} a (Number (pos 7)) is ev (seven_is_a_number st.path) integer_is_no_void
+returns_seven : {now soon : List Loop} (n : ℕ) (st : SymbolicState) (a : core.ExpressionTree) → slice_get box_main.steps n ≡ Some (core.Return (Some a)) → evaluates.Evaluates box_environment st.path st.locals a (Number (pos 7)) → st.names ≡ call_store [] → st.chunks ≡ []
+    → Accepts box_environment box_program box_main box_contract now soon n st
+returns_seven {now = now} {soon = soon} n st a is ev names chunks =
+    do_return {now = now} {soon = soon} {n = n} {st = st} a (Number (pos 7)) is ev (seven_is_a_number st.path) integer_is_no_void
     (result_bound st.names (Number (pos 7)), equal_self st.path (Number (pos 7)), (chunks, subst (λ s. KeepsFixed box_contract s (stored s Result (Number (pos 7)))) (sym names) (keeps (Number (pos 7)))))
 
 -- ---- the steps
-null_way : Accepts box_environment box_program box_main box_contract 1 with_null
+null_way : Accepts box_environment box_program box_main box_contract [] [] 1 with_null
 unfolding with_null begun
 null_way =
     do_if Equal (core.Read 0 somewhere) core.Null 5 2 Null Null refl refl refl (inr (inr (record { by = λ v m. inl refl }))) (inr (inr (record { by = λ v m. inl refl })))
     (returns_seven 5 _ (core.Number (pos 7)) refl refl refl refl)
     (may_drop (record { by = λ v m. not_both true refl (m.1).0 }))
 
-granted_way : Accepts box_environment box_program box_main box_contract 1 granted
+granted_way : Accepts box_environment box_program box_main box_contract [] [] 1 granted
 unfolding granted begun
 granted_way =
     do_if Equal (core.Read 0 somewhere) core.Null 5 2 (symbol 0) Null refl refl refl (inr (inr (record { by = λ v m. (m.1).0 }))) (inr (inr (record { by = λ v m. inl refl })))
@@ -120,7 +121,7 @@ granted_way =
     )
     (returns_seven 6 _ (core.Read 1 somewhere) refl refl refl refl))))
 
-body : Accepts box_environment box_program box_main box_contract 0 begun
+body : Accepts box_environment box_program box_main box_contract [] [] 0 begun
 unfolding begun with_null granted
 body = do_allocate 0 box_name 1 0 refl fresh null_way granted_way
 
@@ -140,8 +141,8 @@ accepted_main = record {
   body = λ s st among. outcome s st among;
 }
   where
-    outcome : (s : terms.Store) (st : SymbolicState) → IsAmong (record { store = call_store []; state = begun } ∷ []) s st → Accepts box_environment box_program box_main box_contract 0 (record st { names = s })
-    outcome s st (inl same) = subst (λ z. Accepts box_environment box_program box_main box_contract 0 (record z { names = s })) same.1 (subst (λ z. Accepts box_environment box_program box_main box_contract 0 (record begun { names = z })) same.0 body)
+    outcome : (s : terms.Store) (st : SymbolicState) → IsAmong (record { store = call_store []; state = begun } ∷ []) s st → Accepts box_environment box_program box_main box_contract [] [] 0 (record st { names = s })
+    outcome s st (inl same) = subst (λ z. Accepts box_environment box_program box_main box_contract [] [] 0 (record z { names = s })) same.1 (subst (λ z. Accepts box_environment box_program box_main box_contract [] [] 0 (record begun { names = z })) same.0 body)
     outcome s st (inr never) = absurd never
 
 all_accepted : AreAccepted box_environment box_program

@@ -13,7 +13,7 @@ use Rattle.vf_model.specs.Acts.{Touch, Faults, Touches}
 use Rattle.vf_model.specs.Races.{TouchesCell}
 use Rattle.vf_model.specs.Steps.{next_act}
 use Rattle.vf_model.specs.Runs.{after}
-use Rattle.vf_model.specs.PreludeFunctions.{prelude_named}
+use Rattle.vf_model.specs.PreludeFunctions.{PreludeFunction, ThreadStart, ThreadStartJoinable, prelude_named}
 use Rattle.vf_meaning.specs.Valuations.{Valuation}
 use Rattle.vf_meaning.specs.Assertions.{ContractTree, Environment}
 use Rattle.vf_meaning.specs.Parts.{Location, Part, IsSum}
@@ -30,6 +30,12 @@ pub record Duty : Type 0 where
 -- the event of a thread with a grant
 abbrev pub event_of : ℕ → ℕ → Event
 event_of t grant = record { thread = t; grant = grant }
+
+-- a called function is none that starts a thread
+abbrev pub StartsNone : Option PreludeFunction → Type 0
+StartsNone (Some ThreadStart) = ⊥
+StartsNone (Some ThreadStartJoinable) = ⊥
+StartsNone _ = Unit {0}
 
 -- a block is a mutex or a handle, which threads share
 abbrev pub IsShared : Option Block → Type 0
@@ -68,7 +74,7 @@ module _ (e : Environment) (p : ProgramTree) (t : ℕ) (duty : Duty) where
     pub direct : (f : FunctionTree) (frame : Frame) (callers : List Frame) (target : Option ℕ) (pointer : ExpressionTree) (signature : Signature) (operands : List ExpressionTree) (place : Place) (next : ℕ)
         → IsAt p s t f frame callers (CallPointer target pointer signature operands place next) → ⊥
     pub unstarted : (f : FunctionTree) (frame : Frame) (callers : List Frame) (target : Option ℕ) (g : Identity) (operands : List ExpressionTree) (place : Place) (next : ℕ)
-        → IsAt p s t f frame callers (Call target g operands place next) → prelude_named g ≡ None
+        → IsAt p s t f frame callers (Call target g operands place next) → StartsNone (prelude_named g)
     pub goes : (grant : ℕ) → Went S s (after p s (event_of t grant)) rest
 
   -- safe for n steps: in every state in which the thread has these frames, beside every other part whose sum with this one fits

@@ -1,0 +1,66 @@
+-- What a thread gives up between two steps is the others' from the next step on.
+use Rattle.std.proofs.Common.{◌≡◌, ℕ, zero, suc, Bool, true, false, List, [], ◌∷◌, refl, sym, ap, subst, ◌∙◌, inl, inr}
+use Rattle.std.specs.Bool.{MatchBool}
+use Rattle.vf_tree.specs.Core.{ProgramTree}
+use Rattle.vf_model.specs.Memory.{Memory}
+use Rattle.vf_model.specs.State.{Thread, State}
+use Rattle.vf_model.specs.Acts.{Touch}
+use Rattle.vf_meaning.specs.Fractions.{whole, nought, sum, IsPositive}
+use Rattle.vf_meaning.specs.Assertions.{Environment}
+use Rattle.vf_meaning.specs.Parts.{Location, Content, Part, IsSum}
+use Rattle.vf_meaning.specs.Fits.{Fits}
+use Rattle.vf_meaning.specs.ShareOuts.{OwnsFor}
+use Rattle.vf_meaning.proofs.FitSteps.{sum_left}
+use Rattle.vf_meaning.proofs.Parts.{sums_turn, in_left, in_right, sum_at, nought_or_positive, not_nought, whole_is_alone}
+use Rattle.vf_safety.specs.Safe.{Duty, Went, Secure, Safe}
+use Rattle.vf_safety.proofs.Steps.{apart}
+
+-- a part whose whole of a location is in what is not given up has the whole of it
+still_whole : (off less own rest more all : Part) (m : Memory) (l : Location) (c : Content) → IsSum off less own → IsSum off rest more → IsSum less more all → Fits all m → less l c ≡ whole → own l c ≡ whole
+still_whole off less own rest more all m l c s r both fits h =
+    let none : off l c ≡ nought = elim (nought_or_positive (off l c)) [ inl z ↦ z | inr y ↦ absurd (not_nought (more l c) (whole_is_alone less more all m l c c both fits h) (in_left off rest more r l c y)) ] in
+    sum_at less off own (sums_turn off less own s) l c ∙ ap (sum (less l c)) none ∙ sum_left (less l c) nought refl ∙ h
+
+still_owns : (off less own rest more all : Part) (m : Memory) (l : Location) (c : Content) → IsSum off less own → IsSum off rest more → IsSum less more all → Fits all m
+    → (b : Bool) → MatchBool b (less l c ≡ whole) (IsPositive (less l c)) → MatchBool b (own l c ≡ whole) (IsPositive (own l c))
+still_owns off less own rest more all m l c s r both fits true h = still_whole off less own rest more all m l c s r both fits h
+still_owns off less own rest more all m l c s r both fits false h = in_right off less own s l c h
+
+module _ (e : Environment) (p : ProgramTree) (t : ℕ) (duty : Duty) where
+  -- what was given up before a step is given up in it
+  gone : (S : Thread → Part → Type 0) (s new : State) (off rest more : Part) → IsSum off rest more → Went e p t duty S s new more → Went e p t duty S s new rest
+  gone S s new off rest more r w =
+      let other = apart rest off more w.leaked w.others (sums_turn off rest more r) w.given_up in
+      record {
+        frames = w.frames;
+        own = w.own;
+        leaked = other.0;
+        others = w.others;
+        all = w.all;
+        given_up = other.2;
+        sums = w.sums;
+        fits = w.fits;
+        typed = w.typed;
+        shaped = w.shaped;
+        now = w.now;
+        alone = w.alone;
+        number = w.number;
+        unshared = w.unshared;
+        going = w.going;
+        leaves = w.leaves;
+      }
+
+  -- with more than a safe part a thread is safe, what is more being leaked
+  pub leaving_safe : (n : ℕ) (frames : Thread) (off less own : Part) → IsSum off less own → Safe e p t duty n frames less → Safe e p t duty n frames own
+  leaving_safe zero frames off less own s safe = tt
+  leaving_safe (suc n) [] off less own s safe = tt
+  leaving_safe (suc n) (frame ∷ callers) off less own s safe = λ st rest all going frames sums fits typed shaped.
+      let (more, r, both) = apart less off own rest all (sums_turn off less own s) sums in
+      let k = safe st more all going frames both fits typed shaped in
+      record {
+        faultless = k.faultless;
+        owned = λ touch new c l h covers at. let o = k.owned touch new c l h covers at in (o.0, still_owns off less own rest more all st.memory l o.0 s r both fits touch.writes o.1);
+        direct = k.direct;
+        unstarted = k.unstarted;
+        goes = λ grant. gone (Safe e p t duty n) st _ off rest more r (k.goes grant);
+      }
