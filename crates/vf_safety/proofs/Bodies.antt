@@ -27,7 +27,7 @@ use Rattle.vf_meaning.specs.Parts.{Location, FieldCell, Content, CellOf, Part, n
 use Rattle.vf_meaning.specs.Fits.{Fits}
 use Rattle.vf_meaning.specs.Chunks.{start_of, CellMeets}
 use Rattle.vf_meaning.specs.Satisfaction.{Satisfies, SatisfiesAt}
-use Rattle.vf_meaning.specs.Kept.{IsFixed, Ensures, IsReturned, Returns, with_result, depth_in, depth}
+use Rattle.vf_meaning.specs.Kept.{IsFixed, Ensures, IsReturned, Returns, Promise, CallsPointer, with_result, depth_in, depth}
 use Rattle.vf_meaning.proofs.Values.{tells_names}
 use Rattle.vf_meaning.proofs.Parts.{sums_turn, nothing_is_neutral, nothing-⊕, in_left, single_here}
 use Rattle.vf_meaning.proofs.FitSteps.{fields_are_written, blocks_are_freed}
@@ -62,8 +62,9 @@ use Rattle.vf_rules.proofs.Takes.{same_value, takes_parted, removes_parted, chan
 use Rattle.vf_rules.proofs.Consumes.{consumed}
 use Rattle.vf_rules.proofs.Evaluates.{evaluates, evaluates_all}
 use Rattle.vf_rules.proofs.Opening.{opening_keeps, closing_keeps, completed, completed_means, completed_sorted}
-use Rattle.vf_safety.specs.Safe.{Duty, StartsNone, IsShaped, Went, Safe, returned, IsResult, Continues}
-use Rattle.vf_safety.proofs.Steps.{Here, turn_of, apart, together, secure, not_left, went_local, went_over, local_secure, reading_secure, writing_secure, same_place, typed_sum, typed_single, typed_of_left, typed_of_right, set_own, set_other, set_length}
+use Rattle.vf_safety.specs.Safe.{Duties, Within, left_after, DoneAt, DutiesChange, event_of, StartsNone, IsShaped, Went, Safe, returned, IsResult, Continues}
+use Rattle.vf_safety.proofs.Duties.{one_more_call, left_within, left_changes, none_left, none_done}
+use Rattle.vf_safety.proofs.Steps.{Here, turn_of, apart, together, secure, not_left, not_called, went_local, went_over, local_secure, reading_secure, writing_secure, same_place, typed_sum, typed_single, typed_of_left, typed_of_right, set_own, set_other, set_length}
 use Rattle.vf_safety.proofs.Cells.{field_there, the_cell, load_act, store_act, touched, store_unshared, whole_of, written_shaped}
 use Rattle.vf_safety.proofs.Allocations.{new_struct_means, takes_fields, granted_free, struct_shaped, struct_unshared, struct_added, struct_there, free_act, free_null_act, removed_shaped, removed_unshared, freed_owned}
 use Rattle.vf_safety.proofs.Typing.{may_is, type_back, AllMayBe, types_back, all_entailed, locals_set, bound_stored, result_sorted, compares_terms}
@@ -78,11 +79,11 @@ none_some : {A B : Type 0} {x : A} → None ≡ Some x → B
 none_some e = cc
 
 -- ---- what a function's contract makes of a call
-module _ (e : Environment) (p : ProgramTree) (t : ℕ) (duty : Duty) where
-  -- a function is safe for n steps under a contract, from each call of it with typed arguments and a part that satisfies the precondition
+module _ (e : Environment) (p : ProgramTree) (t : ℕ) where
+  -- a function is safe for n steps under a contract, whatever the thread owes, from each call of it with typed arguments and a part that satisfies the precondition
   abbrev pub FunctionSafe : ℕ → ℕ → FunctionTree → ContractTree → Type 0
   FunctionSafe n number f k =
-      (arguments : List Value) (w : Valuation) (callers : Thread) (target : Option ℕ) (q r own : Part) → length arguments ≡ k.parameters → AllMayBe f.signature.parameters arguments
+      (duty : Duties) (arguments : List Value) (w : Valuation) (callers : Thread) (target : Option ℕ) (q r own : Part) → length arguments ≡ k.parameters → AllMayBe f.signature.parameters arguments
       → ((j : ℕ) (a : Value) → slice_get arguments j ≡ Some a → w (Numbered j) ≡ a) → w CurrentThread ≡ values.Number (pos t) → AreOfSorts e w k.sorts → Satisfies e whole k.requires_this w q → IsTypedPart e p own
       → IsSum q r own → Continues e p t duty n callers target f.signature.result k w r → Safe e p t duty n (entered number f arguments target ∷ callers) own
 
@@ -93,11 +94,12 @@ module _ (e : Environment) (p : ProgramTree) (t : ℕ) (duty : Duty) where
   all_fewer : (n : ℕ) → AllSafe (suc n) → AllSafe n
   all_fewer n h j l = h j (omega (arith, l))
 
-  fewer : (n : ℕ) (callers : Thread) (target : Option ℕ) (type : TypeTree) (k : ContractTree) (w : Valuation) (r : Part) → Continues e p t duty (suc n) callers target type k w r → Continues e p t duty n callers target type k w r
-  fewer n callers target type k w r h j l = h j (omega (arith, l))
-
   below : (n m : ℕ) → n < m → AllSafe m → AllSafe n
   below n m l h j i = h j (omega (arith, l, i))
+
+module _ (e : Environment) (p : ProgramTree) (t : ℕ) (duty : Duties) where
+  fewer : (n : ℕ) (callers : Thread) (target : Option ℕ) (type : TypeTree) (k : ContractTree) (w : Valuation) (r : Part) → Continues e p t duty (suc n) callers target type k w r → Continues e p t duty n callers target type k w r
+  fewer n callers target type k w r h j l = h j (omega (arith, l))
 
   continues_below : (n m : ℕ) (callers : Thread) (target : Option ℕ) (type : TypeTree) (k : ContractTree) (w : Valuation) (r : Part) → n < m → Continues e p t duty m callers target type k w r → Continues e p t duty n callers target type k w r
   continues_below n m callers target type k w r l h j i = h j (omega (arith, l, i))
@@ -136,7 +138,7 @@ result_store_sorted e v sorts s u h k so x is known = h k so x (sym (stored_othe
     clash z = cc
 
 -- ---- bodies
-module _ (e : Environment) (p : ProgramTree) (t : ℕ) (duty : Duty) (f : FunctionTree) (k : ContractTree) where
+module _ (e : Environment) (p : ProgramTree) (t : ℕ) (duty : Duties) (f : FunctionTree) (k : ContractTree) where
   -- a frame is at a step, in a state that stands for its locals and its part, and what comes after its return is safe
   pub record Ready (n : ℕ) (st : SymbolicState) (m : ℕ) (frame : Frame) (callers : Thread) (own : Part) : Type 0 where
     pub symbols : Valuation
@@ -151,7 +153,7 @@ module _ (e : Environment) (p : ProgramTree) (t : ℕ) (duty : Duty) (f : Functi
     pub typed : IsTypedPart e p own
     pub sums : IsSum part kept own
     pub continues : Continues e p t duty m callers frame.target f.signature.result k names kept
-    pub others : AllSafe e p t duty m
+    pub others : AllSafe e p t m
 
   here : (n : ℕ) (st : SymbolicState) (m : ℕ) (frame : Frame) (callers : Thread) (own : Part) (s : State) (step : StepTree) → Ready n st m frame callers own → slice_get f.steps n ≡ Some step → s.end ≡ None → slice_get s.threads t ≡ Some (frame ∷ callers)
       → Here p s t f frame callers step
@@ -210,7 +212,7 @@ module _ (e : Environment) (p : ProgramTree) (t : ℕ) (duty : Duty) (f : Functi
     typed = typed;
     sums = sums;
     continues = fewer e p t duty m callers frame.target f.signature.result k r.names r.kept r.continues;
-    others = all_fewer e p t duty m r.others;
+    others = all_fewer e p t m r.others;
   }
 
   -- ---- one lemma a rule
@@ -218,10 +220,10 @@ module _ (e : Environment) (p : ProgramTree) (t : ℕ) (duty : Duty) (f : Functi
       → Evaluates e st.path st.locals a u
       → (Ready next (accept.with_local st x u) m (at_step (with_local frame x (value_in e r.symbols u)) next) callers own → Safe e p t duty m (at_step (with_local frame x (value_in e r.symbols u)) next ∷ callers) own)
       → Safe e p t duty (suc m) (frame ∷ callers) own
-  set_safe n st m frame callers own x a next u r is ev go s rest all going frames sums fits typed shaped =
+  set_safe n st m frame callers own x a next u r is ev go s rest all going frames within sums fits typed shaped =
       let value = evaluates e r.symbols st.path st.locals frame.locals a u ev (r.stands).path (r.stands).locals_mean in
-      local_secure e p t duty (Safe e p t duty m) s f frame callers (Set x a next) (at_step (with_local frame x (value_in e r.symbols u)) next ∷ callers) own rest all
-      (here n st (suc m) frame callers own s (Set x a next) r is going frames) tt tt
+      local_secure e p t duty (λ ds. Safe e p t ds m) s f frame callers (Set x a next) (at_step (with_local frame x (value_in e r.symbols u)) next ∷ callers) own rest all
+      (here n st (suc m) frame callers own s (Set x a next) r is going frames) tt tt within
       (ap (λ z. given z (λ w. Goes (sets (turn_of s t frame callers) x w next))) value) sums fits typed shaped
       (go (later n next st (accept.with_local st x u) m frame callers own own r r.symbols _ r.part (with_locals e r.symbols st frame.locals r.names r.part x u _ refl r.stands) r.typed r.sums))
 
@@ -230,7 +232,7 @@ module _ (e : Environment) (p : ProgramTree) (t : ℕ) (duty : Duty) (f : Functi
       → (Ready y_step (assuming st (Holds (Compare c u w))) m (at_step frame y_step) callers own → Safe e p t duty m (at_step frame y_step ∷ callers) own)
       → (Ready n_step (assuming st (Holds (Not (Compare c u w)))) m (at_step frame n_step) callers own → Safe e p t duty m (at_step frame n_step ∷ callers) own)
       → Safe e p t duty (suc m) (frame ∷ callers) own
-  if_safe n st m frame callers own c a b y_step n_step u w r is ea eb ca cb yes_go no_go s rest all going frames sums fits typed shaped =
+  if_safe n st m frame callers own c a b y_step n_step u w r is ea eb ca cb yes_go no_go s rest all going frames within sums fits typed shaped =
       let v = r.symbols in
       let left = evaluates e v st.path st.locals frame.locals a u ea (r.stands).path (r.stands).locals_mean in
       let right = evaluates e v st.path st.locals frame.locals b w eb (r.stands).path (r.stands).locals_mean in
@@ -238,11 +240,11 @@ module _ (e : Environment) (p : ProgramTree) (t : ℕ) (duty : Duty) (f : Functi
       let same_test = compares_terms e v st.path c u w ca cb (r.stands).path in
       elim (cases_Bool (compared c (value_in e v u) (value_in e v w))) [
         | inl yes1 ↦
-            local_secure e p t duty (Safe e p t duty m) s f frame callers (If c a b y_step n_step) (at_step frame y_step ∷ callers) own rest all at tt tt
+            local_secure e p t duty (λ ds. Safe e p t ds m) s f frame callers (If c a b y_step n_step) (at_step frame y_step ∷ callers) own rest all at tt tt within
             (if_act p s t frame callers c a b y_step n_step _ _ true left right (same_test ∙ yes1)) sums fits typed shaped
             (yes_go (later n y_step st (assuming st (Holds (Compare c u w))) m frame callers own own r v frame.locals r.part (assuming_stands e v st frame.locals r.names r.part (Holds (Compare c u w)) yes1 r.stands) r.typed r.sums))
         | inr no1 ↦
-            local_secure e p t duty (Safe e p t duty m) s f frame callers (If c a b y_step n_step) (at_step frame n_step ∷ callers) own rest all at tt tt
+            local_secure e p t duty (λ ds. Safe e p t ds m) s f frame callers (If c a b y_step n_step) (at_step frame n_step ∷ callers) own rest all at tt tt within
             (if_act p s t frame callers c a b y_step n_step _ _ false left right (same_test ∙ no1)) sums fits typed shaped
             (no_go (later n n_step st (assuming st (Holds (Not (Compare c u w)))) m frame callers own own r v frame.locals r.part
             (assuming_stands e v st frame.locals r.names r.part (Holds (Not (Compare c u w))) (not_true (compared c (value_in e v u) (value_in e v w)) no1) r.stands) r.typed r.sums))
@@ -273,7 +275,7 @@ module _ (e : Environment) (p : ProgramTree) (t : ℕ) (duty : Duty) (f : Functi
       → c.arguments ≡ Some z ∷ Some content ∷ [] → Entails e st.path (same u z)
       → (Ready next (accept.with_local st x content) m (at_step (with_local frame x (value_in e r.symbols content)) next) callers own → Safe e p t duty m (at_step (with_local frame x (value_in e r.symbols content)) next ∷ callers) own)
       → Safe e p t duty (suc m) (frame ∷ callers) own
-  load_safe n st m frame callers own x a field place next u z content c others r is ev taken head arguments equal go s rest all going frames sums fits typed shaped =
+  load_safe n st m frame callers own x a field place next u z content c others r is ev taken head arguments equal go s rest all going frames within sums fits typed shaped =
       let v = r.symbols in
       let o = removes_parted e v c taken r.part (r.stands).chunks_mean in
       let owned = cell_owned v field z (Some content) c o.off o.chunk head arguments in
@@ -286,8 +288,8 @@ module _ (e : Environment) (p : ProgramTree) (t : ℕ) (duty : Duty) (f : Functi
       let in_own = in_left r.part r.kept own r.sums l (CellOf (Some w)) (in_left o.off o.left r.part o.sums l (CellOf (Some w)) in_off) in
       let there_now = field_there all s.memory b field (Some w) fits (in_left own rest all sums l (CellOf (Some w)) in_own) in
       let value = evaluates e v st.path st.locals frame.locals a u ev (r.stands).path (r.stands).locals_mean ∙ ap Gives (same_value e v u z (equal.by v (r.stands).path) ∙ cell.begins) in
-      reading_secure e p t duty (Safe e p t duty m) s f frame callers (Load x a field place next) (touch_of (the_cell b field) false place) (at_step (with_local frame x w) next ∷ callers) own rest all
-      (here n st (suc m) frame callers own s (Load x a field place next) r is going frames) tt tt (load_act p s t frame callers x a field place next b w value there_now) sums fits typed shaped
+      reading_secure e p t duty (λ ds. Safe e p t ds m) s f frame callers (Load x a field place next) (touch_of (the_cell b field) false place) (at_step (with_local frame x w) next ∷ callers) own rest all
+      (here n st (suc m) frame callers own s (Load x a field place next) r is going frames) tt tt within (load_act p s t frame callers x a field place next b w value there_now) sums fits typed shaped
       (λ d k covers at. (CellOf (Some w), subst (λ i. IsPositive (own i (CellOf (Some w)))) (touched s.memory b field (Some w) false place d k there_now covers at) in_own))
       (go (later n next st (accept.with_local st x content) m frame callers own own r v _ r.part (with_locals e v st frame.locals r.names r.part x content w refl r.stands) r.typed r.sums))
 
@@ -308,7 +310,7 @@ module _ (e : Environment) (p : ProgramTree) (t : ℕ) (duty : Duty) (f : Functi
       → ((own' : Part) → Ready next (with_chunks st (others ++ cell_chunk field u (Some w) ∷ [])) m (at_step frame next) callers own' → Safe e p t duty m (at_step frame next ∷ callers) own')
       → Safe e p t duty (suc m) (frame ∷ callers) own
   unfolding cell_owned
-  store_safe n st m frame callers own a b field place next u z w old c others r is ea eb taken head arguments equal types go s rest all going frames sums fits typed shaped =
+  store_safe n st m frame callers own a b field place next u z w old c others r is ea eb taken head arguments equal types go s rest all going frames within sums fits typed shaped =
       let v = r.symbols in
       let o = takes_parted e v st.path all_of_it c taken (r.stands).path r.part (r.stands).chunks_mean in
       let owned = cell_owned v field z old (record c { share = all_of_it }) o.off o.chunk head arguments in
@@ -334,8 +336,8 @@ module _ (e : Environment) (p : ProgramTree) (t : ℕ) (duty : Duty) (f : Functi
       let at_value = evaluates e v st.path st.locals frame.locals b w eb (r.stands).path (r.stands).locals_mean in
       let chunks_now = chunks_more e v others (cell_chunk field u (Some w) ∷ []) o.left new inside.0 o.chunks_mean (one_mean v (cell_chunk field u (Some w)) new (cell_means v field u w d pointer_is)) inside.1 in
       let own_whole : (l' : Location) → l ≡ l' → (c0 : Content) × (own l' c0 ≡ whole) = λ l' same_l. (CellOf cell.holds, whole_of o.off inner.0 own rest all s.memory l l' (CellOf cell.holds) same_l off_is inner.2 sums fits) in
-      writing_secure e p t duty (Safe e p t duty m) s f frame callers (Store a field b place next) (touch_of (the_cell d field) true place) (at_step frame next ∷ callers) (written s.memory (the_cell d field) new_value) own rest back.0 written_now.all
-      (here n st (suc m) frame callers own s (Store a field b place next) r is going frames) tt tt (store_act p s t frame callers a b field place next d new_value cell.holds at_pointer at_value there_now)
+      writing_secure e p t duty (λ ds. Safe e p t ds m) s f frame callers (Store a field b place next) (touch_of (the_cell d field) true place) (at_step frame next ∷ callers) (written s.memory (the_cell d field) new_value) own rest back.0 written_now.all
+      (here n st (suc m) frame callers own s (Store a field b place next) r is going frames) tt tt within (store_act p s t frame callers a b field place next d new_value cell.holds at_pointer at_value there_now)
       back.2 written_now.fits typed_all (written_shaped p s.memory d field cell.holds new_value there_now shaped) (store_unshared s.memory d field cell.holds new_value there_now)
       (λ d0 k covers at. own_whole k (touched s.memory d field cell.holds true place d0 k there_now covers at))
       (go back.0 (later n next st (with_chunks st (others ++ cell_chunk field u (Some w) ∷ [])) m frame callers own back.0 r v frame.locals inside.0
@@ -356,30 +358,29 @@ module _ (e : Environment) (p : ProgramTree) (t : ℕ) (duty : Duty) (f : Functi
       → ((b : ℕ) (own' : Part) → Ready next (accept.with_local (assuming_all (with_chunks st (st.chunks ++ new_chunks g (symbol y) 0 (field_count p g))) (OfSort (symbol y) Pointers ∷ Holds (Compare NotEqual (symbol y) Null) ∷ [])) x (symbol y)) m (at_step (with_local frame x (start_of b)) next) callers own'
       → Safe e p t duty m (at_step (with_local frame x (start_of b)) next ∷ callers) own')
       → Safe e p t duty (suc m) (frame ∷ callers) own
-  allocate_safe n st m frame callers own x g next y r is fresh denied_go granted_go s rest all going frames sums fits typed shaped =
+  allocate_safe n st m frame callers own x g next y r is fresh denied_go granted_go s rest all going frames within sums fits typed shaped =
       let v = r.symbols in
       let at = here n st (suc m) frame callers own s (Allocate x g next) r is going frames in
       let denied_frames = at_step (with_local frame x values.Null) next ∷ callers in
       let turn = turn_of s t frame callers in
-      secure e p t duty (Safe e p t duty m) s f frame callers (Allocate x g next) own rest
+      secure e p t duty (λ ds. Safe e p t ds m) s f frame callers (Allocate x g next) own rest
       (Allocates (with_frames turn denied_frames) (λ b. with_frames (over_memory turn (finite.insert s.memory b (new_struct p g))) (at_step (with_local frame x (start_of b)) next ∷ callers))) at tt refl
       (λ kind place h. allocates_fault h) (λ touch new c l h. allocates_touch h)
       (λ grant. elim (cases_Bool (grant == 0)) [
-        | inl none ↦ subst (λ z. Went e p t duty (Safe e p t duty m) s (cond z (with_frames turn denied_frames) (with_frames (over_memory turn (finite.insert s.memory (granted_block s.memory grant) (new_struct p g))) (at_step (with_local frame x (start_of (granted_block s.memory grant))) next ∷ callers))) rest) (sym none)
-            (went_local e p t duty (Safe e p t duty m) s f frame callers (Allocate x g next) denied_frames own rest all at sums fits typed shaped
-            (denied_go (later n next st (accept.with_local st x Null) m frame callers own own r v _ r.part (with_locals e v st frame.locals r.names r.part x Null values.Null refl r.stands) r.typed r.sums))
-            (λ result k one. not_left e p t duty (Safe e p t duty m) s f frame callers (Allocate x g next) at tt result k))
-        | inr some1 ↦ subst (λ z. Went e p t duty (Safe e p t duty m) s (cond z (with_frames turn denied_frames) (with_frames (over_memory turn (finite.insert s.memory (granted_block s.memory grant) (new_struct p g))) (at_step (with_local frame x (start_of (granted_block s.memory grant))) next ∷ callers))) rest) (sym some1)
-            (granted n st m frame callers own x g next y r is fresh s rest all going frames sums fits typed shaped at (granted_block s.memory grant) (granted_free s.memory grant) (granted_go (granted_block s.memory grant)))
+        | inl none ↦ subst (λ z. Went e p t (λ ds. Safe e p t ds m) duty s (cond z (with_frames turn denied_frames) (with_frames (over_memory turn (finite.insert s.memory (granted_block s.memory grant) (new_struct p g))) (at_step (with_local frame x (start_of (granted_block s.memory grant))) next ∷ callers))) rest) (sym none)
+            (went_local e p t duty (λ ds. Safe e p t ds m) s f frame callers (Allocate x g next) denied_frames own rest all at tt tt within sums fits typed shaped
+            (denied_go (later n next st (accept.with_local st x Null) m frame callers own own r v _ r.part (with_locals e v st frame.locals r.names r.part x Null values.Null refl r.stands) r.typed r.sums)))
+        | inr some1 ↦ subst (λ z. Went e p t (λ ds. Safe e p t ds m) duty s (cond z (with_frames turn denied_frames) (with_frames (over_memory turn (finite.insert s.memory (granted_block s.memory grant) (new_struct p g))) (at_step (with_local frame x (start_of (granted_block s.memory grant))) next ∷ callers))) rest) (sym some1)
+            (granted n st m frame callers own x g next y r is fresh s rest all going frames within sums fits typed shaped at (granted_block s.memory grant) (granted_free s.memory grant) (granted_go (granted_block s.memory grant)))
       ])
     where
       granted : (n : ℕ) (st : SymbolicState) (m : ℕ) (frame : Frame) (callers : Thread) (own : Part) (x : ℕ) (g : Identity) (next y : ℕ) → (r : Ready n st (suc m) frame callers own) → slice_get f.steps n ≡ Some (Allocate x g next) → IsFresh y st
-          → (s : State) (rest all : Part) → s.end ≡ None → slice_get s.threads t ≡ Some (frame ∷ callers) → IsSum own rest all → Fits all s.memory → IsTypedPart e p all → IsShaped p s.memory
+          → (s : State) (rest all : Part) → s.end ≡ None → slice_get s.threads t ≡ Some (frame ∷ callers) → Within (suc (length callers)) duty → IsSum own rest all → Fits all s.memory → IsTypedPart e p all → IsShaped p s.memory
           → Here p s t f frame callers (Allocate x g next) → (b : ℕ) → block_at s.memory b ≡ None
           → ((own' : Part) → Ready next (accept.with_local (assuming_all (with_chunks st (st.chunks ++ new_chunks g (symbol y) 0 (field_count p g))) (OfSort (symbol y) Pointers ∷ Holds (Compare NotEqual (symbol y) Null) ∷ [])) x (symbol y)) m (at_step (with_local frame x (start_of b)) next) callers own'
           → Safe e p t duty m (at_step (with_local frame x (start_of b)) next ∷ callers) own')
-          → Went e p t duty (Safe e p t duty m) s (with_frames (over_memory (turn_of s t frame callers) (finite.insert s.memory b (new_struct p g))) (at_step (with_local frame x (start_of b)) next ∷ callers)) rest
-      granted n st m frame callers own x g next y r is fresh s rest all going frames sums fits typed shaped at b free go =
+          → Went e p t (λ ds. Safe e p t ds m) duty s (with_frames (over_memory (turn_of s t frame callers) (finite.insert s.memory b (new_struct p g))) (at_step (with_local frame x (start_of b)) next ∷ callers)) rest
+      granted n st m frame callers own x g next y r is fresh s rest all going frames within sums fits typed shaped at b free go =
           let v1 = bound r.symbols (Numbered y) (start_of b) in
           let own_symbol_is : value_in e v1 (symbol y) ≡ start_of b = own_symbol r.symbols y (start_of b) in
           let new = new_struct_means e p v1 (symbol y) b g 0 (field_count p g) own_symbol_is in
@@ -391,7 +392,7 @@ module _ (e : Environment) (p : ProgramTree) (t : ℕ) (duty : Duty) (f : Functi
           let st1 = with_chunks st (st.chunks ++ new_chunks g (symbol y) 0 (field_count p g)) in
           let stands2 = assuming_all_stands e v1 st1 frame.locals r.names inside.0 _ (pointer_met v1 y b own_symbol_is) (record { path = stands1.path; locals_mean = stands1.locals_mean; names_mean = stands1.names_mean; chunks_mean = chunks_now }) in
           let typed_all = typed_sum e p new.part all added.all added.sums new.typed typed in
-          went_over e p t duty (Safe e p t duty m) s f frame callers (Allocate x g next) (at_step (with_local frame x (start_of b)) next ∷ callers) (finite.insert s.memory b (new_struct p g)) back.0 rest added.all at tt back.2 added.fits typed_all
+          went_over e p t duty (λ ds. Safe e p t ds m) s f frame callers (Allocate x g next) (at_step (with_local frame x (start_of b)) next ∷ callers) (finite.insert s.memory b (new_struct p g)) back.0 rest added.all at tt tt within back.2 added.fits typed_all
           (struct_shaped p s.memory b g shaped) (struct_unshared p s.memory b g)
           (go back.0 (later n next st _ m frame callers own back.0 r v1 _ inside.0
           (with_locals e v1 (assuming_all st1 (OfSort (symbol y) Pointers ∷ Holds (Compare NotEqual (symbol y) Null) ∷ [])) frame.locals r.names inside.0 x (symbol y) (start_of b) own_symbol_is stands2)
@@ -400,17 +401,17 @@ module _ (e : Environment) (p : ProgramTree) (t : ℕ) (duty : Duty) (f : Functi
   -- ---- release
   free_null_safe : (n : ℕ) (st : SymbolicState) (m : ℕ) (frame : Frame) (callers : Thread) (own : Part) (a : ExpressionTree) (g : Identity) (place : Place) (next : ℕ) (u : Term) → (r : Ready n st (suc m) frame callers own) → slice_get f.steps n ≡ Some (Free a g place next)
       → Evaluates e st.path st.locals a u → Entails e st.path (same u Null) → (Ready next st m (at_step frame next) callers own → Safe e p t duty m (at_step frame next ∷ callers) own) → Safe e p t duty (suc m) (frame ∷ callers) own
-  free_null_safe n st m frame callers own a g place next u r is ev null go s rest all going frames sums fits typed shaped =
+  free_null_safe n st m frame callers own a g place next u r is ev null go s rest all going frames within sums fits typed shaped =
       let v = r.symbols in
       let value = evaluates e v st.path st.locals frame.locals a u ev (r.stands).path (r.stands).locals_mean ∙ ap Gives (same_value e v u Null (null.by v (r.stands).path)) in
-      local_secure e p t duty (Safe e p t duty m) s f frame callers (Free a g place next) (at_step frame next ∷ callers) own rest all (here n st (suc m) frame callers own s (Free a g place next) r is going frames) tt tt
+      local_secure e p t duty (λ ds. Safe e p t ds m) s f frame callers (Free a g place next) (at_step frame next ∷ callers) own rest all (here n st (suc m) frame callers own s (Free a g place next) r is going frames) tt tt within
       (free_null_act p s t frame callers a g place next value) sums fits typed shaped
       (go (later n next st st m frame callers own own r v frame.locals r.part r.stands r.typed r.sums))
 
   free_safe : (n : ℕ) (st : SymbolicState) (m : ℕ) (frame : Frame) (callers : Thread) (own : Part) (a : ExpressionTree) (g : Identity) (place : Place) (next : ℕ) (u : Term) (left : List SymbolicChunk) → (r : Ready n st (suc m) frame callers own)
       → slice_get f.steps n ≡ Some (Free a g place next) → Evaluates e st.path st.locals a u → TakesFields e st.path g u 0 (field_count p g) st.chunks left
       → ((own' : Part) → Ready next (with_chunks st left) m (at_step frame next) callers own' → Safe e p t duty m (at_step frame next ∷ callers) own') → Safe e p t duty (suc m) (frame ∷ callers) own
-  free_safe n st m frame callers own a g place next u left r is ev taken go s rest all going frames sums fits typed shaped =
+  free_safe n st m frame callers own a g place next u left r is ev taken go s rest all going frames within sums fits typed shaped =
       let v = r.symbols in
       let o = takes_fields e v st.path g u 0 (field_count p g) st.chunks left taken (r.stands).path r.part (r.stands).chunks_mean in
       let inner = apart o.part o.left r.part r.kept own o.sums r.sums in
@@ -419,8 +420,8 @@ module _ (e : Environment) (p : ProgramTree) (t : ℕ) (duty : Duty) (f : Functi
       let value = evaluates e v st.path st.locals frame.locals a u ev (r.stands).path (r.stands).locals_mean ∙ ap Gives o.is in
       let freed = blocks_are_freed s.memory o.block _ o.part outer.0 (record { all = all; sums = outer.2; fits = fits }) there_now.block tt there_now.all_of in
       let typed_left = typed_of_right e p o.part outer.0 all outer.2 typed in
-      writing_secure e p t duty (Safe e p t duty m) s f frame callers (Free a g place next) (record { block = o.block; cell = None; writes = true; place = place }) (at_step frame next ∷ callers) (finite.remove s.memory o.block) own rest inner.0 outer.0
-      (here n st (suc m) frame callers own s (Free a g place next) r is going frames) tt tt (free_act p s t frame callers a g place next o.block there_now.cells value there_now.block)
+      writing_secure e p t duty (λ ds. Safe e p t ds m) s f frame callers (Free a g place next) (record { block = o.block; cell = None; writes = true; place = place }) (at_step frame next ∷ callers) (finite.remove s.memory o.block) own rest inner.0 outer.0
+      (here n st (suc m) frame callers own s (Free a g place next) r is going frames) tt tt within (free_act p s t frame callers a g place next o.block there_now.cells value there_now.block)
       outer.1 freed typed_left (removed_shaped p s.memory o.block shaped) (removed_unshared s.memory o.block)
       (λ c l covers at. freed_owned p s.memory o.block g o.part inner.0 own rest all place inner.2 sums fits o.owns there_now c l covers at)
       (go inner.0 (later n next st (with_chunks st left) m frame callers own inner.0 r v frame.locals o.left (record { path = (r.stands).path; locals_mean = (r.stands).locals_mean; names_mean = (r.stands).names_mean; chunks_mean = o.means })
@@ -430,22 +431,18 @@ module _ (e : Environment) (p : ProgramTree) (t : ℕ) (duty : Duty) (f : Functi
   return_act : (s : State) (frame : Frame) (callers : Thread) (a : ExpressionTree) (w : Value) → evaluate frame.locals a ≡ Gives w → act_of p (turn_of s t frame callers) (Return (Some a)) ≡ Goes (returns (turn_of s t frame callers) (Some w))
   return_act s frame callers a w value = ap (λ z. given z (λ x. Goes (returns (turn_of s t frame callers) (Some x)))) value
 
-  one_frame : (callers : Thread) → suc (length callers) ≡ 1 → callers ≡ []
-  one_frame [] h = refl
-  one_frame (c ∷ cs) h = absurd (no (length cs) h)
-    where
-      no : (n : ℕ) → suc (suc n) ≡ 1 → ⊥
-      no n h = omega arith
+  one_less : (a b : ℕ) → suc a ≡ suc b → a ≡ b
+  one_less a b h = omega (arith, h)
 
   depth_is : (s : State) (frame : Frame) (callers : Thread) → slice_get s.threads t ≡ Some (frame ∷ callers) → depth s t ≡ suc (length callers)
   depth_is s frame callers h = ap depth_in h
 
-  ended_frames : (s : State) (frame : Frame) (callers : Thread) (w : Option Value) (rest own all : Part) → s.end ≡ None → slice_get s.threads t ≡ Some (frame ∷ callers) → IsSum own rest all → Fits all s.memory → IsTypedPart e p all → IsShaped p s.memory
-      → (m : ℕ) → ((result : Option Value) → Returns p s t result → depth s t ≡ 1 → Ensures e duty.contract duty.names result own)
-      → Safe e p t duty m (returned e p t duty callers frame.target w) own → Went e p t duty (Safe e p t duty m) s (returns (turn_of s t frame callers) w) rest
-  ended_frames s frame [] w rest own all going frames sums fits typed shaped m leaves safe =
+  ended_frames : (s : State) (frame : Frame) (callers : Thread) (w : Option Value) (rest own all : Part) → s.end ≡ None → slice_get s.threads t ≡ Some (frame ∷ callers) → Within (suc (length callers)) duty → IsSum own rest all → Fits all s.memory → IsTypedPart e p all → IsShaped p s.memory
+      → (m : ℕ) → ((grant : ℕ) (call : Promise) → CallsPointer e p s (event_of t grant) call → ⊥) → ((result : Option Value) → Returns p s t result → (n : ℕ) → depth s t ≡ suc n → DoneAt e n duty result own)
+      → Safe e p t (left_after (length callers) duty) m (returned e p t callers frame.target w) own → Went e p t (λ ds. Safe e p t ds m) duty s (returns (turn_of s t frame callers) w) rest
+  ended_frames s frame [] w rest own all going frames within sums fits typed shaped m direct leaves safe =
       elim (cases_Bool (t == 0)) [
-        | inl main ↦ subst (λ z. Went e p t duty (Safe e p t duty m) s (cond z (ended (with_frames (turn_of s t frame []) []) (Returned (returned_number w))) (with_frames (turn_of s t frame []) [])) rest) (sym main) (record {
+        | inl main ↦ subst (λ z. Went e p t (λ ds. Safe e p t ds m) duty s (cond z (ended (with_frames (turn_of s t frame []) []) (Returned (returned_number w))) (with_frames (turn_of s t frame []) [])) rest) (sym main) (record {
           frames = [];
           own = own;
           leaked = nothing;
@@ -460,10 +457,14 @@ module _ (e : Environment) (p : ProgramTree) (t : ℕ) (duty : Duty) (f : Functi
           alone = λ u other. set_other s.threads t u [] other;
           number = set_length s.threads t [];
           unshared = λ b h. refl;
+          owing = left_after 0 duty;
+          within = left_within 0 duty within;
+          owes = subst (λ z. DutiesChange z 0 duty (left_after 0 duty)) (sym (depth_is s frame [] frames)) (left_changes 0 duty);
           going = λ h. safe;
+          called = λ grant call h. absurd (direct grant call h);
           leaves = leaves;
         })
-        | inr thread ↦ subst (λ z. Went e p t duty (Safe e p t duty m) s (cond z (ended (with_frames (turn_of s t frame []) []) (Returned (returned_number w))) (with_frames (turn_of s t frame []) [])) rest) (sym thread) (record {
+        | inr thread ↦ subst (λ z. Went e p t (λ ds. Safe e p t ds m) duty s (cond z (ended (with_frames (turn_of s t frame []) []) (Returned (returned_number w))) (with_frames (turn_of s t frame []) [])) rest) (sym thread) (record {
           frames = [];
           own = own;
           leaked = nothing;
@@ -478,11 +479,15 @@ module _ (e : Environment) (p : ProgramTree) (t : ℕ) (duty : Duty) (f : Functi
           alone = λ u other. set_other s.threads t u [] other;
           number = set_length s.threads t [];
           unshared = λ b h. refl;
+          owing = left_after 0 duty;
+          within = left_within 0 duty within;
+          owes = subst (λ z. DutiesChange z 0 duty (left_after 0 duty)) (sym (depth_is s frame [] frames)) (left_changes 0 duty);
           going = λ h. safe;
+          called = λ grant call h. absurd (direct grant call h);
           leaves = leaves;
         })
       ]
-  ended_frames s frame (c ∷ cs) w rest own all going frames sums fits typed shaped m leaves safe = record {
+  ended_frames s frame (c ∷ cs) w rest own all going frames within sums fits typed shaped m direct leaves safe = record {
     frames = state.with_result c frame.target w ∷ cs;
     own = own;
     leaked = nothing;
@@ -497,7 +502,11 @@ module _ (e : Environment) (p : ProgramTree) (t : ℕ) (duty : Duty) (f : Functi
     alone = λ u other. set_other s.threads t u (state.with_result c frame.target w ∷ cs) other;
     number = set_length s.threads t (state.with_result c frame.target w ∷ cs);
     unshared = λ b h. refl;
+    owing = left_after (suc (length cs)) duty;
+    within = left_within (suc (length cs)) duty within;
+    owes = subst (λ z. DutiesChange z (suc (length cs)) duty (left_after (suc (length cs)) duty)) (sym (depth_is s frame (c ∷ cs) frames)) (left_changes (suc (length cs)) duty);
     going = λ h. safe;
+    called = λ grant call h. absurd (direct grant call h);
     leaves = leaves;
   }
 
@@ -589,7 +598,7 @@ module _ (e : Environment) (p : ProgramTree) (t : ℕ) (duty : Duty) (f : Functi
   return_safe : (n : ℕ) (st : SymbolicState) (m : ℕ) (frame : Frame) (callers : Thread) (own : Part) (a : ExpressionTree) (u : Term) → (r : Ready n st (suc m) frame callers own) → slice_get f.steps n ≡ Some (Return (Some a))
       → Evaluates e st.path st.locals a u → EntailsAll e st.path (facts_of_result f.signature.result u) → f.signature.result ≢ Void
       → Consume e p k.sorts all_of_it k.ensures_this (stored st.names Result u) st (λ s1 st1. (st1.chunks ≡ []) × KeepsFixed k st.names s1) → Safe e p t duty (suc m) (frame ∷ callers) own
-  return_safe n st m frame callers own a u r is ev facts value_type consume s rest all going frames sums fits typed shaped =
+  return_safe n st m frame callers own a u r is ev facts value_type consume s rest all going frames within sums fits typed shaped =
       let v = r.symbols in
       let w = value_in e v u in
       let at = here n st (suc m) frame callers own s (Return (Some a)) r is going frames in
@@ -604,17 +613,18 @@ module _ (e : Environment) (p : ProgramTree) (t : ℕ) (duty : Duty) (f : Functi
       (result_means c.under c.store r.names u w result_is (c.stays Result u (stored_own st.names Result u))) c.satisfies in
       let next = r.continues m (omega arith) (Some w) c.off own (may_is f.signature.result w value_type (type_back e v f.signature.result u (all_entailed e st.path _ facts v (r.stands).path))) ensured r.typed
       (subst (λ z. IsSum z r.kept own) (sym off_is) r.sums) in
-      secure e p t duty (Safe e p t duty m) s f frame callers (Return (Some a)) own rest (Goes (returns (turn_of s t frame callers) (Some w))) at tt (return_act s frame callers a w value)
+      secure e p t duty (λ ds. Safe e p t ds m) s f frame callers (Return (Some a)) own rest (Goes (returns (turn_of s t frame callers) (Some w))) at tt (return_act s frame callers a w value)
       (λ kind place h. goes_fault h) (λ touch new c0 l h. goes_touch h)
-      (λ grant. ended_frames s frame callers (Some w) rest own all going frames sums fits typed shaped m
-      (λ result back one. subst (λ z. Ensures e duty.contract duty.names z own) (sym (returned_value s frame callers a w at value result back)) (next.0 (one_frame callers (sym (depth_is s frame callers frames) ∙ one)))) next.1)
+      (λ grant. ended_frames s frame callers (Some w) rest own all going frames within sums fits typed shaped m
+      (λ grant0 call c0. not_called e p t duty (λ ds. Safe e p t ds m) s f frame callers (Return (Some a)) at tt grant0 call c0)
+      (λ result back n0 one. subst (λ z. DoneAt e z duty result own) (one_less (length callers) n0 (sym (depth_is s frame callers frames) ∙ one)) (subst (λ z. DoneAt e (length callers) duty z own) (sym (returned_value s frame callers a w at value result back)) next.0)) next.1)
 
   leave_act : (s : State) (frame : Frame) (callers : Thread) → act_of p (turn_of s t frame callers) (Return None) ≡ Goes (returns (turn_of s t frame callers) None)
   leave_act s frame callers = refl
 
   leave_safe : (n : ℕ) (st : SymbolicState) (m : ℕ) (frame : Frame) (callers : Thread) (own : Part) → (r : Ready n st (suc m) frame callers own) → slice_get f.steps n ≡ Some (Return None) → f.signature.result ≡ Void
       → Consume e p k.sorts all_of_it k.ensures_this st.names st (λ s1 st1. (st1.chunks ≡ []) × KeepsFixed k st.names s1) → Safe e p t duty (suc m) (frame ∷ callers) own
-  leave_safe n st m frame callers own r is no_value consume s rest all going frames sums fits typed shaped =
+  leave_safe n st m frame callers own r is no_value consume s rest all going frames within sums fits typed shaped =
       let v = r.symbols in
       let at = here n st (suc m) frame callers own s (Return None) r is going frames in
       let c = consumed e p k.sorts all_of_it whole frame.locals r.names k.ensures_this st.names st (λ s1 st1. (st1.chunks ≡ []) × KeepsFixed k st.names s1) consume v r.part r.stands
@@ -623,10 +633,11 @@ module _ (e : Environment) (p : ProgramTree) (t : ℕ) (duty : Duty) (f : Functi
       let off_is : c.off ≡ r.part = nothing_left c.off c.left r.part left_none c.sums in
       let ensured = consumed_ensures v c.under r.names st st.names c.store None c.depth c.off (r.stands).names_mean r.of_sorts c.sorted (c.holds).1 (λ x fix. refl) c.stays (override_means c.under c.store r.names) c.satisfies in
       let next = r.continues m (omega arith) None c.off own no_value ensured r.typed (subst (λ z. IsSum z r.kept own) (sym off_is) r.sums) in
-      secure e p t duty (Safe e p t duty m) s f frame callers (Return None) own rest (Goes (returns (turn_of s t frame callers) None)) at tt (leave_act s frame callers)
+      secure e p t duty (λ ds. Safe e p t ds m) s f frame callers (Return None) own rest (Goes (returns (turn_of s t frame callers) None)) at tt (leave_act s frame callers)
       (λ kind place h. goes_fault h) (λ touch new c0 l h. goes_touch h)
-      (λ grant. ended_frames s frame callers None rest own all going frames sums fits typed shaped m
-      (λ result back one. subst (λ z. Ensures e duty.contract duty.names z own) (sym (returned_nothing s frame callers at result back)) (next.0 (one_frame callers (sym (depth_is s frame callers frames) ∙ one)))) next.1)
+      (λ grant. ended_frames s frame callers None rest own all going frames within sums fits typed shaped m
+      (λ grant0 call c0. not_called e p t duty (λ ds. Safe e p t ds m) s f frame callers (Return None) at tt grant0 call c0)
+      (λ result back n0 one. subst (λ z. DoneAt e z duty result own) (one_less (length callers) n0 (sym (depth_is s frame callers frames) ∙ one)) (subst (λ z. DoneAt e (length callers) duty z own) (sym (returned_nothing s frame callers at result back)) next.0)) next.1)
 
   -- ---- calls
   -- the frame that a call returns to, with the result
@@ -634,7 +645,7 @@ module _ (e : Environment) (p : ProgramTree) (t : ℕ) (duty : Duty) (f : Functi
   back_to frame next target result = state.with_result (at_step frame next) target result
 
   resumed : (n next : ℕ) (st su : SymbolicState) (m j : ℕ) (frame : Frame) (callers : Thread) (own own2 : Part) (r : Ready n st (suc m) frame callers own) (target : Option ℕ) (result : Option Value) (y : Term) (type : TypeTree) (v : Valuation) (q : Part)
-      → j < suc m → IsResult e p t duty type result → (type ≡ Void → target ≡ None) → ((w : Value) → result ≡ Some w → value_in e v y ≡ w)
+      → j < suc m → IsResult e p t type result → (type ≡ Void → target ≡ None) → ((w : Value) → result ≡ Some w → value_in e v y ≡ w)
       → StandsFor e v su frame.locals r.names q → IsTypedPart e p own2 → IsSum q r.kept own2 → Ready next (receiving target y su) j (back_to frame next target result) callers own2
   unfolding back_to
   resumed n next st su m j frame callers own own2 r None result y type v q l typed_result to value stands typed sums = record {
@@ -650,7 +661,7 @@ module _ (e : Environment) (p : ProgramTree) (t : ℕ) (duty : Duty) (f : Functi
     typed = typed;
     sums = sums;
     continues = continues_below e p t duty j (suc m) callers frame.target f.signature.result k r.names r.kept l r.continues;
-    others = below e p t duty j (suc m) l r.others;
+    others = below e p t j (suc m) l r.others;
   }
   resumed n next st su m j frame callers own own2 r (Some x) (Some w) y type v q l typed_result to value stands typed sums = record {
     symbols = v;
@@ -665,11 +676,11 @@ module _ (e : Environment) (p : ProgramTree) (t : ℕ) (duty : Duty) (f : Functi
     typed = typed;
     sums = sums;
     continues = continues_below e p t duty j (suc m) callers frame.target f.signature.result k r.names r.kept l r.continues;
-    others = below e p t duty j (suc m) l r.others;
+    others = below e p t j (suc m) l r.others;
   }
   resumed n next st su m j frame callers own own2 r (Some x) None y type v q l typed_result to value stands typed sums = none_some (sym (to typed_result))
 
-  result_facts : (v : Valuation) (type : TypeTree) (y : Term) (result : Option Value) → IsResult e p t duty type result → ((w : Value) → result ≡ Some w → value_in e v y ≡ w) → Meets e v (facts_of_result type y)
+  result_facts : (v : Valuation) (type : TypeTree) (y : Term) (result : Option Value) → IsResult e p t type result → ((w : Value) → result ≡ Some w → value_in e v y ≡ w) → Meets e v (facts_of_result type y)
   result_facts v type y (Some w) h is = type_met e v type y w (is w refl) h
   result_facts v type y None h is = subst (λ z. Meets e v (facts_of_type z y)) (sym h) tt
 
@@ -725,7 +736,7 @@ module _ (e : Environment) (p : ProgramTree) (t : ℕ) (duty : Duty) (f : Functi
       → ((s : terms.Store) (su : SymbolicState) → IsAmong outs s su → (j : ℕ) → j < suc m → (fr : Frame) (own2 : Part) → Ready next su j fr callers own2 → Safe e p t duty j (fr ∷ callers) own2)
       → Safe e p t duty (suc m) (frame ∷ callers) own
   unfolding back_to
-  call_safe n st m frame callers own target g operands place next number callee contract ts outs r is outside of_thread named callee_is has to ev count types sorted consume go s rest all going frames sums fits typed shaped =
+  call_safe n st m frame callers own target g operands place next number callee contract ts outs r is outside of_thread named callee_is has to ev count types sorted consume go s rest all going frames within sums fits typed shaped =
       let v = r.symbols in
       let ws = map (value_in e v) ts in
       let at = here n st (suc m) frame callers own s (Call target g operands place next) r is going frames in
@@ -744,18 +755,16 @@ module _ (e : Environment) (p : ProgramTree) (t : ℕ) (duty : Duty) (f : Functi
       let there = stored_other (store_of ts) CurrentThread (Numbered j) (Variable CurrentThread) (λ x. number_thread x) ∙ z.1 in
       sym (means (Numbered j) z.0 (c.grows (Numbered j) z.0 there)) ∙ c.stays (Numbered j) z.0 there ∙ z.2 in
       let continues : Continues e p t duty m (at_step frame next ∷ callers) target callee.signature.result contract names inner.0 = λ j l result q2 own2 typed_result ensured typed2 sums2. (
-        (λ none. absurd (no_callers none)),
-        after_call n st m frame callers own target next callee contract outs r to go c.under c.left c.store c.state y names fresh fixed means produce c.stands inner.0 inner.1 j (less j m l) result q2 own2 typed_result ensured typed2 sums2,
+        none_done e (suc (length callers)) duty result own2 within,
+        subst (λ z. Safe e p t z j (returned e p t (at_step frame next ∷ callers) target result) own2) (sym (none_left (suc (length callers)) duty within))
+        (after_call n st m frame callers own target next callee contract outs r to go c.under c.left c.store c.state y names fresh fixed means produce c.stands inner.0 inner.1 j (less j m l) result q2 own2 typed_result ensured typed2 sums2),
       ) in
-      let callee_safe = r.others m (omega arith) number callee contract callee_is has ws names (at_step frame next ∷ callers) target c.off inner.0 own (mapped_long v ts ∙ count)
+      let callee_safe = r.others m (omega arith) number callee contract callee_is has duty ws names (at_step frame next ∷ callers) target c.off inner.0 own (mapped_long v ts ∙ count)
       (types_back e v callee.signature.parameters ts (all_entailed e st.path _ types v (r.stands).path)) begins thread_is (completed_sorted e c.under contract.sorts has.inhabited c.store c.sorted)
       (c.depth, c.satisfies names means) r.typed inner.2 continues in
-      local_secure e p t duty (Safe e p t duty m) s f frame callers (Call target g operands place next) (entered number callee ws target ∷ at_step frame next ∷ callers) own rest all at (subst StartsNone (sym outside) tt) tt
+      local_secure e p t duty (λ ds. Safe e p t ds m) s f frame callers (Call target g operands place next) (entered number callee ws target ∷ at_step frame next ∷ callers) own rest all at (subst StartsNone (sym outside) tt) tt (one_more_call (suc (length callers)) duty within)
       (call_act p s t frame callers target g operands place next number callee ws value outside named callee_is) sums fits typed shaped callee_safe
     where
-      no_callers : {x : Frame} {xs : Thread} → (x ∷ xs) ≡ [] → ⊥
-      no_callers h = cc
-
       number_thread : {j : ℕ} → Numbered j ≡ CurrentThread → ⊥
       number_thread h = cc
 
@@ -768,7 +777,7 @@ module _ (e : Environment) (p : ProgramTree) (t : ℕ) (duty : Duty) (f : Functi
           → (u : Valuation) (left : Part) (s1 : terms.Store) (st1 : SymbolicState) (y : ℕ) (names : Valuation) → IsNew y all_of_it s1 [] st1 → AreFixed contract s1 → StoreMeans e u s1 names
           → Produce e p contract.sorts all_of_it contract.ensures_this (stored s1 Result (symbol y)) (assuming_all st1 (facts_of_result callee.signature.result (symbol y))) (λ s2 st2. IsAmong outs s2 (receiving target (symbol y) st2))
           → StandsFor e u st1 frame.locals r.names left → (beside0 : Part) → IsSum left r.kept beside0
-          → (j : ℕ) → j < suc m → (result : Option Value) (q2 own2 : Part) → IsResult e p t duty callee.signature.result result → Ensures e contract names result q2 → IsTypedPart e p own2 → IsSum q2 beside0 own2
+          → (j : ℕ) → j < suc m → (result : Option Value) (q2 own2 : Part) → IsResult e p t callee.signature.result result → Ensures e contract names result q2 → IsTypedPart e p own2 → IsSum q2 beside0 own2
           → Safe e p t duty j (state.with_result (at_step frame next) target result ∷ callers) own2
       after_call n st m frame callers own target next callee contract outs r to go u left s1 st1 y names fresh fixed means produce stands beside0 inner j l result q2 own2 typed_result ensured typed2 sums2 =
           let w = ensured.later in
@@ -790,36 +799,36 @@ module _ (e : Environment) (p : ProgramTree) (t : ℕ) (duty : Duty) (f : Functi
   -- ---- calls of the prelude that touch no memory
   abort_safe : (n : ℕ) (st : SymbolicState) (m : ℕ) (frame : Frame) (callers : Thread) (own : Part) (target : Option ℕ) (g : Identity) (place : Place) (next : ℕ) → (r : Ready n st (suc m) frame callers own) → slice_get f.steps n ≡ Some (Call target g [] place next)
       → prelude_named g ≡ Some Abort → Safe e p t duty (suc m) (frame ∷ callers) own
-  abort_safe n st m frame callers own target g place next r is named s rest all going frames sums fits typed shaped =
+  abort_safe n st m frame callers own target g place next r is named s rest all going frames within sums fits typed shaped =
       let at = here n st (suc m) frame callers own s (Call target g [] place next) r is going frames in
-      secure e p t duty (Safe e p t duty m) s f frame callers (Call target g [] place next) own rest (Goes (ended s Aborted)) at (subst StartsNone (sym named) tt)
+      secure e p t duty (λ ds. Safe e p t ds m) s f frame callers (Call target g [] place next) own rest (Goes (ended s Aborted)) at (subst StartsNone (sym named) tt)
       (prelude_act p s t frame callers target g [] place next Abort [] refl named)
       (λ kind place h. goes_fault h) (λ touch new c0 l h. goes_touch h)
-      (λ grant. ended_went e p t duty (Safe e p t duty m) s (frame ∷ callers) own rest all Aborted sums fits typed shaped frames (λ result back. not_left e p t duty (Safe e p t duty m) s f frame callers (Call target g [] place next) at tt result back))
+      (λ grant. ended_went e p t duty (λ ds. Safe e p t ds m) s (frame ∷ callers) own rest all Aborted sums fits typed shaped frames within (λ grant0 call c0. not_called e p t duty (λ ds. Safe e p t ds m) s f frame callers (Call target g [] place next) at (subst StartsNone (sym named) tt) grant0 call c0) (λ result back. not_left e p t duty (λ ds. Safe e p t ds m) s f frame callers (Call target g [] place next) at tt result back))
 
   print_safe : (n : ℕ) (st : SymbolicState) (m : ℕ) (frame : Frame) (callers : Thread) (own : Part) (target : Option ℕ) (g : Identity) (a : ExpressionTree) (place : Place) (next : ℕ) (u : Term) → (r : Ready n st (suc m) frame callers own)
       → slice_get f.steps n ≡ Some (Call target g (a ∷ []) place next) → prelude_named g ≡ Some PrintInt → Evaluates e st.path st.locals a u
       → (Ready next st m (at_step frame next) callers own → Safe e p t duty m (at_step frame next ∷ callers) own)
       → Safe e p t duty (suc m) (frame ∷ callers) own
-  print_safe n st m frame callers own target g a place next u r is named ev go s rest all going frames sums fits typed shaped =
+  print_safe n st m frame callers own target g a place next u r is named ev go s rest all going frames within sums fits typed shaped =
       let v = r.symbols in
       let w = value_in e v u in
       let at = here n st (suc m) frame callers own s (Call target g (a ∷ []) place next) r is going frames in
       let value = one_value frame.locals a w (evaluates e v st.path st.locals frame.locals a u ev (r.stands).path (r.stands).locals_mean) in
       let bytes = signed_decimal (number_of w) ++ 10 ∷ [] in
-      secure e p t duty (Safe e p t duty m) s f frame callers (Call target g (a ∷ []) place next) own rest (Goes (with_frames (after_output (turn_of s t frame callers) bytes) (at_step frame next ∷ callers))) at (subst StartsNone (sym named) tt)
+      secure e p t duty (λ ds. Safe e p t ds m) s f frame callers (Call target g (a ∷ []) place next) own rest (Goes (with_frames (after_output (turn_of s t frame callers) bytes) (at_step frame next ∷ callers))) at (subst StartsNone (sym named) tt)
       (prelude_act p s t frame callers target g (a ∷ []) place next PrintInt (w ∷ []) value named)
       (λ kind place h. goes_fault h) (λ touch new c0 l h. goes_touch h)
-      (λ grant. output_went e p t duty (Safe e p t duty m) s frame callers (at_step frame next ∷ callers) bytes own rest all sums fits typed shaped frames
+      (λ grant. output_went e p t duty (λ ds. Safe e p t ds m) s frame callers (at_step frame next ∷ callers) bytes own rest all sums fits typed shaped frames
       (go (later n next st st m frame callers own own r v frame.locals r.part r.stands r.typed r.sums))
-      (λ result back. not_left e p t duty (Safe e p t duty m) s f frame callers (Call target g (a ∷ []) place next) at tt result back))
+      within (λ grant0 call c0. not_called e p t duty (λ ds. Safe e p t ds m) s f frame callers (Call target g (a ∷ []) place next) at (subst StartsNone (sym named) tt) grant0 call c0) (λ result back. not_left e p t duty (λ ds. Safe e p t ds m) s f frame callers (Call target g (a ∷ []) place next) at tt result back))
 
   put_safe : (n : ℕ) (st : SymbolicState) (m : ℕ) (frame : Frame) (callers : Thread) (own : Part) (target : Option ℕ) (g : Identity) (a : ExpressionTree) (place : Place) (next y : ℕ) (u : Term) → (r : Ready n st (suc m) frame callers own)
       → slice_get f.steps n ≡ Some (Call target g (a ∷ []) place next) → prelude_named g ≡ Some PutChar → Evaluates e st.path st.locals a u → IsFresh y st
       → ((w : Value) → Ready next (receiving target (symbol y) (assuming_all st (facts_of_type (Integer int_types.Int) (symbol y)))) m (back_to frame next target (Some w)) callers own → Safe e p t duty m (back_to frame next target (Some w) ∷ callers) own)
       → Safe e p t duty (suc m) (frame ∷ callers) own
   unfolding back_to
-  put_safe n st m frame callers own target g a place next y u r is named ev fresh go s rest all going frames sums fits typed shaped =
+  put_safe n st m frame callers own target g a place next y u r is named ev fresh go s rest all going frames within sums fits typed shaped =
       let v = r.symbols in
       let w = value_in e v u in
       let at = here n st (suc m) frame callers own s (Call target g (a ∷ []) place next) r is going frames in
@@ -831,12 +840,12 @@ module _ (e : Environment) (p : ProgramTree) (t : ℕ) (duty : Duty) (f : Functi
       let stands2 = assuming_all_stands e v2 st frame.locals r.names r.part _ (type_met e v2 (Integer int_types.Int) (symbol y) given own_is (byte_in_range (number_of w))) (stands_fresh e v y given st frame.locals r.names r.part fresh r.stands) in
       let ready = resumed n next st (assuming_all st (facts_of_type (Integer int_types.Int) (symbol y))) m m frame callers own own r target (Some given) (symbol y) (Integer int_types.Int) v2 r.part (omega arith) (byte_in_range (number_of w)) (λ h. absurd (integer_no_void h))
       (λ x h. own_is ∙ some_same h) stands2 r.typed r.sums in
-      secure e p t duty (Safe e p t duty m) s f frame callers (Call target g (a ∷ []) place next) own rest (Goes (with_frames (after_output (turn_of s t frame callers) (byte ∷ [])) (at_step (state.with_result frame target (Some given)) next ∷ callers))) at (subst StartsNone (sym named) tt)
+      secure e p t duty (λ ds. Safe e p t ds m) s f frame callers (Call target g (a ∷ []) place next) own rest (Goes (with_frames (after_output (turn_of s t frame callers) (byte ∷ [])) (at_step (state.with_result frame target (Some given)) next ∷ callers))) at (subst StartsNone (sym named) tt)
       (prelude_act p s t frame callers target g (a ∷ []) place next PutChar (w ∷ []) value named)
       (λ kind place h. goes_fault h) (λ touch new c0 l h. goes_touch h)
-      (λ grant. output_went e p t duty (Safe e p t duty m) s frame callers (at_step (state.with_result frame target (Some given)) next ∷ callers) (byte ∷ []) own rest all sums fits typed shaped frames
+      (λ grant. output_went e p t duty (λ ds. Safe e p t ds m) s frame callers (at_step (state.with_result frame target (Some given)) next ∷ callers) (byte ∷ []) own rest all sums fits typed shaped frames
       (subst (λ z. Safe e p t duty m (z ∷ callers) own) (result_then_step frame next target given) (go given ready))
-      (λ result back. not_left e p t duty (Safe e p t duty m) s f frame callers (Call target g (a ∷ []) place next) at tt result back))
+      within (λ grant0 call c0. not_called e p t duty (λ ds. Safe e p t ds m) s f frame callers (Call target g (a ∷ []) place next) at (subst StartsNone (sym named) tt) grant0 call c0) (λ result back. not_left e p t duty (λ ds. Safe e p t ds m) s f frame callers (Call target g (a ∷ []) place next) at tt result back))
 
   -- ---- loops
   -- from a loop's head on a frame is safe for n steps, whichever outcome of producing the invariant stands for it

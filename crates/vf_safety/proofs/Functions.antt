@@ -21,7 +21,8 @@ use Rattle.vf_rules.specs.Accept.{all_of_it, facts_of_types, facts_of_sorts, cal
 use Rattle.vf_rules.proofs.Terms.{stored_means}
 use Rattle.vf_rules.proofs.Stands.{meets_more}
 use Rattle.vf_rules.proofs.Produces.{produced, type_met}
-use Rattle.vf_safety.specs.Safe.{Duty, Safe}
+use Rattle.vf_safety.specs.Safe.{Duty, Safe, Duties, left_after}
+use Rattle.vf_safety.proofs.Duties.{first_done}
 use Rattle.vf_safety.specs.Laws.{AreOfTypes, AreAccepted, AcceptedCallsAreSafe, AcceptedThreadsAreSafe}
 use Rattle.vf_safety.proofs.Steps.{typed_of_left}
 use Rattle.vf_safety.proofs.Typing.{MayBe, is_may, AllMayBe}
@@ -116,9 +117,9 @@ begins_stand e f k arguments w long may begins of_sorts =
       chunks_mean = refl;
     }
 
-module _ (e : Environment) (p : ProgramTree) (t : ℕ) (duty : Duty) where
-  function_safe : (number : ℕ) (f : FunctionTree) (k : ContractTree) → slice_get p.functions number ≡ Some f → IsAcceptedFunction e p f k → (n : ℕ) → AllSafe e p t duty n → FunctionSafe e p t duty n number f k
-  function_safe number f k is accepted n fewer arguments w callers target q r own long may begins thread of_sorts required typed sums continues =
+module _ (e : Environment) (p : ProgramTree) (t : ℕ) where
+  function_safe : (number : ℕ) (f : FunctionTree) (k : ContractTree) → slice_get p.functions number ≡ Some f → IsAcceptedFunction e p f k → (n : ℕ) → AllSafe e p t n → FunctionSafe e p t n number f k
+  function_safe number f k is accepted n fewer duty arguments w callers target q r own long may begins thread of_sorts required typed sums continues =
       let parameters = (accepted.contract).parameters in
       let count : length arguments ≡ length f.signature.parameters = long ∙ parameters in
       let o = produced e p k.sorts all_of_it whole required.0 (locals_of f arguments) w k.requires_this (call_store (parameter_symbols (length f.signature.parameters))) (beginning f k) (IsAmong accepted.outs) accepted.produced
@@ -141,7 +142,7 @@ module _ (e : Environment) (p : ProgramTree) (t : ℕ) (duty : Duty) where
         others = fewer;
       })
 
-  all_safe : AreAccepted e p → (n : ℕ) → AllSafe e p t duty n
+  all_safe : AreAccepted e p → (n : ℕ) → AllSafe e p t n
   all_safe accepted zero j l number f k is has = absurd (no_less j l)
     where
       no_less : (j : ℕ) → j < 0 → ⊥
@@ -159,18 +160,16 @@ all_may (t ∷ types) [] h = absurd h
 all_may (t ∷ types) (w ∷ ws) h = let (long, rest) = all_may types ws h.1 in (ap suc long, (is_may t w h.0, rest))
 
 pub accepted_calls_are_safe : AcceptedCallsAreSafe
-accepted_calls_are_safe e p accepted t duty number f k arguments names rest own call callers target n continues =
+accepted_calls_are_safe e p accepted t duties number f k arguments names rest own call callers target n continues =
     let (long, may) = all_may f.signature.parameters arguments call.types in
-    all_safe e p t duty accepted (suc n) n (omega arith) number f k call.function call.contract arguments names callers target call.passed rest own (long ∙ sym (call.contract).parameters) may call.begins call.thread call.of_sorts call.required call.typed call.sums continues
+    all_safe e p t accepted (suc n) n (omega arith) number f k call.function call.contract duties arguments names callers target call.passed rest own (long ∙ sym (call.contract).parameters) may call.begins call.thread call.of_sorts call.required call.typed call.sums continues
 
 pub accepted_threads_are_safe : AcceptedThreadsAreSafe
 accepted_threads_are_safe e p accepted t number f k arguments names own rest none call n =
-    accepted_calls_are_safe e p accepted t (record { contract = k; names = names }) number f k arguments names rest own call [] None n
-    (λ j l result q own2 of_type ensured typed sums. ((λ last. subst (λ z. Ensures e k names result z) (all_of q own2 sums) ensured), ended j own2))
+    let first : Duty = record { contract = k; names = names; rest = nothing; below = 0 } in
+    accepted_calls_are_safe e p accepted t (first ∷ []) number f k arguments names rest own call [] None n
+    (λ j l result q own2 of_type ensured typed sums. (first_done e 0 first [] result own2 (q, ensured, subst (λ z. IsSum q z own2) none sums), ended (left_after 0 (first ∷ [])) j own2))
   where
-    all_of : (q own2 : Part) → IsSum q rest own2 → q ≡ own2
-    all_of q own2 sums = sym ((sums_turn q rest own2 sums).adds ∙ ap (λ z. z ⊕ q) none ∙ nothing-⊕ q)
-
-    ended : (j : ℕ) (own2 : Part) → Safe e p t (record { contract = k; names = names }) j [] own2
-    ended zero own2 = tt
-    ended (suc j) own2 = tt
+    ended : (ds : Duties) (j : ℕ) (own2 : Part) → Safe e p t ds j [] own2
+    ended ds zero own2 = tt
+    ended ds (suc j) own2 = tt

@@ -12,7 +12,7 @@ use Rattle.vf_meaning.specs.Fits.{Fits}
 use Rattle.vf_meaning.specs.ShareOuts.{OwnsFor}
 use Rattle.vf_meaning.proofs.FitSteps.{sum_left}
 use Rattle.vf_meaning.proofs.Parts.{sums_turn, in_left, in_right, sum_at, nought_or_positive, not_nought, whole_is_alone}
-use Rattle.vf_safety.specs.Safe.{Duty, Went, Secure, Safe}
+use Rattle.vf_safety.specs.Safe.{Duties, Within, Went, Secure, Safe}
 use Rattle.vf_safety.proofs.Steps.{apart}
 
 -- a part whose whole of a location is in what is not given up has the whole of it
@@ -26,10 +26,10 @@ still_owns : (off less own rest more all : Part) (m : Memory) (l : Location) (c 
 still_owns off less own rest more all m l c s r both fits true h = still_whole off less own rest more all m l c s r both fits h
 still_owns off less own rest more all m l c s r both fits false h = in_right off less own s l c h
 
-module _ (e : Environment) (p : ProgramTree) (t : ℕ) (duty : Duty) where
+module _ (e : Environment) (p : ProgramTree) (t : ℕ) where
   -- what was given up before a step is given up in it
-  gone : (S : Thread → Part → Type 0) (s new : State) (off rest more : Part) → IsSum off rest more → Went e p t duty S s new more → Went e p t duty S s new rest
-  gone S s new off rest more r w =
+  gone : (S : Duties → Thread → Part → Type 0) (duties : Duties) (s new : State) (off rest more : Part) → IsSum off rest more → Went e p t S duties s new more → Went e p t S duties s new rest
+  gone S duties s new off rest more r w =
       let other = apart rest off more w.leaked w.others (sums_turn off rest more r) w.given_up in
       record {
         frames = w.frames;
@@ -46,21 +46,24 @@ module _ (e : Environment) (p : ProgramTree) (t : ℕ) (duty : Duty) where
         alone = w.alone;
         number = w.number;
         unshared = w.unshared;
+        owing = w.owing;
+        within = w.within;
+        owes = w.owes;
         going = w.going;
+        called = w.called;
         leaves = w.leaves;
       }
 
   -- with more than a safe part a thread is safe, what is more being leaked
-  pub leaving_safe : (n : ℕ) (frames : Thread) (off less own : Part) → IsSum off less own → Safe e p t duty n frames less → Safe e p t duty n frames own
-  leaving_safe zero frames off less own s safe = tt
-  leaving_safe (suc n) [] off less own s safe = tt
-  leaving_safe (suc n) (frame ∷ callers) off less own s safe = λ st rest all going frames sums fits typed shaped.
+  pub leaving_safe : (duties : Duties) (n : ℕ) (frames : Thread) (off less own : Part) → IsSum off less own → Safe e p t duties n frames less → Safe e p t duties n frames own
+  leaving_safe duties zero frames off less own s safe = tt
+  leaving_safe duties (suc n) [] off less own s safe = tt
+  leaving_safe duties (suc n) (frame ∷ callers) off less own s safe = λ st rest all going frames within sums fits typed shaped.
       let (more, r, both) = apart less off own rest all (sums_turn off less own s) sums in
-      let k = safe st more all going frames both fits typed shaped in
+      let k = safe st more all going frames within both fits typed shaped in
       record {
         faultless = k.faultless;
         owned = λ touch new c l h covers at. let o = k.owned touch new c l h covers at in (o.0, still_owns off less own rest more all st.memory l o.0 s r both fits touch.writes o.1);
-        direct = k.direct;
         unstarted = k.unstarted;
-        goes = λ grant. gone (Safe e p t duty n) st _ off rest more r (k.goes grant);
+        goes = λ grant. gone (λ ds. Safe e p t ds n) duties st _ off rest more r (k.goes grant);
       }

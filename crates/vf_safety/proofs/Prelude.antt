@@ -18,10 +18,10 @@ use Rattle.vf_model.specs.Steps.{act_of}
 use Rattle.vf_meaning.specs.Assertions.{Environment}
 use Rattle.vf_meaning.specs.Parts.{Part, nothing, IsSum}
 use Rattle.vf_meaning.specs.Fits.{Fits}
-use Rattle.vf_meaning.specs.Kept.{Returns, Ensures, depth}
+use Rattle.vf_meaning.specs.Kept.{Returns, Promise, CallsPointer}
 use Rattle.vf_meaning.proofs.Parts.{sums_turn, nothing_is_neutral}
 use Rattle.vf_rules.specs.Types.{IsTypedPart, IsOfType}
-use Rattle.vf_safety.specs.Safe.{Duty, IsShaped, Went}
+use Rattle.vf_safety.specs.Safe.{Duties, Within, DutiesChange, duties_same, Promised, event_of, IsShaped, Went}
 use Rattle.vf_safety.proofs.Steps.{turn_of, set_own, set_other, set_length}
 
 -- what a call of a prelude function does
@@ -53,11 +53,11 @@ pub result_then_step : (frame : Frame) (next : ℕ) (target : Option ℕ) (w : V
 result_then_step frame next None w = refl
 result_then_step frame next (Some x) w = refl
 
-module _ (e : Environment) (p : ProgramTree) (t : ℕ) (duty : Duty) (S : Thread → Part → Type 0) where
+module _ (e : Environment) (p : ProgramTree) (t : ℕ) (duties : Duties) (S : Duties → Thread → Part → Type 0) where
   -- the run has ended, and nothing else has changed
   pub ended_went : (s : State) (frames : Thread) (own rest all : Part) (end : End) → IsSum own rest all → Fits all s.memory → IsTypedPart e p all → IsShaped p s.memory → slice_get s.threads t ≡ Some frames
-      → ((result : Option Value) → Returns p s t result → ⊥) → Went e p t duty S s (ended s end) rest
-  ended_went s frames own rest all end sums fits typed shaped there inside = record {
+      → Within (length frames) duties → ((grant : ℕ) (call : Promise) → CallsPointer e p s (event_of t grant) call → ⊥) → ((result : Option Value) → Returns p s t result → ⊥) → Went e p t S duties s (ended s end) rest
+  ended_went s frames own rest all end sums fits typed shaped there within direct inside = record {
     frames = frames;
     own = own;
     leaked = nothing;
@@ -73,7 +73,11 @@ module _ (e : Environment) (p : ProgramTree) (t : ℕ) (duty : Duty) (S : Thread
     number = refl;
     unshared = λ b h. refl;
     going = λ h. absurd (not_going h);
-    leaves = λ result r one. absurd (inside result r);
+    owing = duties;
+    within = within;
+    owes = duties_same duties;
+    called = λ grant call h. absurd (direct grant call h);
+    leaves = λ result r n h. absurd (inside result r);
   }
     where
       not_going : Some end ≡ None → ⊥
@@ -81,8 +85,8 @@ module _ (e : Environment) (p : ProgramTree) (t : ℕ) (duty : Duty) (S : Thread
 
   -- a thread with other frames and the same memory, after some output
   pub output_went : (s : State) (frame : Frame) (callers frames : Thread) (bytes : List ℕ) (own rest all : Part) → IsSum own rest all → Fits all s.memory → IsTypedPart e p all → IsShaped p s.memory → slice_get s.threads t ≡ Some (frame ∷ callers)
-      → S frames own → ((result : Option Value) → Returns p s t result → ⊥) → Went e p t duty S s (with_frames (after_output (turn_of s t frame callers) bytes) frames) rest
-  output_went s frame callers frames bytes own rest all sums fits typed shaped there safe inside = record {
+      → S duties frames own → Within (length frames) duties → ((grant : ℕ) (call : Promise) → CallsPointer e p s (event_of t grant) call → ⊥) → ((result : Option Value) → Returns p s t result → ⊥) → Went e p t S duties s (with_frames (after_output (turn_of s t frame callers) bytes) frames) rest
+  output_went s frame callers frames bytes own rest all sums fits typed shaped there safe within direct inside = record {
     frames = frames;
     own = own;
     leaked = nothing;
@@ -98,5 +102,9 @@ module _ (e : Environment) (p : ProgramTree) (t : ℕ) (duty : Duty) (S : Thread
     number = set_length s.threads t frames;
     unshared = λ b h. refl;
     going = λ h. safe;
-    leaves = λ result r one. absurd (inside result r);
+    owing = duties;
+    within = within;
+    owes = duties_same duties;
+    called = λ grant call h. absurd (direct grant call h);
+    leaves = λ result r n h. absurd (inside result r);
   }

@@ -1,7 +1,7 @@
 -- One step of a thread over parts of memory, with no symbolic state.
 use Rattle.std.proofs.Common.{◌≡◌, ◌≢◌, ℕ, zero, suc, List, [], ◌∷◌, length, slice_get, slice_set, Option, Some, None, refl, sym, ap, subst, ◌∙◌, inl, inr}
 use Rattle.vf_base.specs.declared.place.Place.{Place}
-use Rattle.vf_tree.specs.Core.{StepTree, Call, CallPointer, Return, FunctionTree, ProgramTree}
+use Rattle.vf_tree.specs.Core.{StepTree, Set, Load, Store, Allocate, Free, Offset, LoadAt, StoreAt, AllocateInts, FreeInts, Call, CallPointer, If, Return, FunctionTree, ProgramTree}
 use Rattle.vf_model.specs.declared.words.FaultKind.{FaultKind}
 use Rattle.vf_model.specs.Values.{Dyadic, Value}
 use Rattle.vf_model.specs.Memory.{Memory, Cell, block_at}
@@ -15,10 +15,10 @@ use Rattle.vf_meaning.specs.Assertions.{Environment}
 use Rattle.vf_meaning.specs.Parts.{Location, Content, Part, nothing, single, IsSum}
 use Rattle.vf_meaning.specs.Fits.{Fits}
 use Rattle.vf_meaning.specs.ShareOuts.{location_in, OwnsFor}
-use Rattle.vf_meaning.specs.Kept.{IsAt, Returns, Ensures, depth}
+use Rattle.vf_meaning.specs.Kept.{IsAt, Returns, Promise, CallsPointer, depth}
 use Rattle.vf_meaning.proofs.Parts.{sums_turn, sums_regroup, nothing_is_neutral, in_left, in_right, in_either, single_only}
 use Rattle.vf_rules.specs.Types.{IsTypedContent, IsTypedPart}
-use Rattle.vf_safety.specs.Safe.{Duty, event_of, StartsNone, IsShared, IsShaped, Went, Secure}
+use Rattle.vf_safety.specs.Safe.{Duties, Within, DutiesChange, duties_same, Promised, event_of, StartsNone, IsShared, IsShaped, Went, Secure}
 
 some_same : {A : Type 0} {x y : A} → Some x ≡ Some y → x ≡ y
 some_same e = cc
@@ -99,36 +99,60 @@ IsDirect (CallPointer target pointer signature operands place next) = ⊥
 IsDirect (Call target g operands place next) = StartsNone (prelude_named g)
 IsDirect _ = Unit {0}
 
+-- steps that start no thread
+abbrev pub IsUnstarting : StepTree → Type 0
+IsUnstarting (Call target g operands place next) = StartsNone (prelude_named g)
+IsUnstarting _ = Unit {0}
+
+pub direct_starts_none : (step : StepTree) → IsDirect step → IsUnstarting step
+direct_starts_none (CallPointer target pointer signature operands place next) h = absurd h
+direct_starts_none (Call target g operands place next) h = h
+direct_starts_none (Set x a next) h = tt
+direct_starts_none (Load x a f place next) h = tt
+direct_starts_none (Store a f b place next) h = tt
+direct_starts_none (Allocate x g next) h = tt
+direct_starts_none (Free a g place next) h = tt
+direct_starts_none (Offset x a i place next) h = tt
+direct_starts_none (LoadAt x a i place next) h = tt
+direct_starts_none (StoreAt a i b place next) h = tt
+direct_starts_none (AllocateInts x a place next) h = tt
+direct_starts_none (FreeInts a place next) h = tt
+direct_starts_none (If c a b y n) h = tt
+direct_starts_none (Return x) h = tt
+
 abbrev pub IsInside : StepTree → Type 0
 IsInside (Return x) = ⊥
 IsInside _ = Unit {0}
 
-module _ (e : Environment) (p : ProgramTree) (t : ℕ) (duty : Duty) (S : Thread → Part → Type 0) where
+module _ (e : Environment) (p : ProgramTree) (t : ℕ) (duties : Duties) (S : Duties → Thread → Part → Type 0) where
   -- a step that has an act, by what the act is
-  pub secure : (s : State) (f : FunctionTree) (frame : Frame) (callers : Thread) (step : StepTree) (own rest : Part) (act : Act) → Here p s t f frame callers step → IsDirect step
+  pub secure : (s : State) (f : FunctionTree) (frame : Frame) (callers : Thread) (step : StepTree) (own rest : Part) (act : Act) → Here p s t f frame callers step → IsUnstarting step
       → act_of p (turn_of s t frame callers) step ≡ act
       → ((kind : FaultKind) (place : Place) → act ≡ Faults kind place → ⊥)
       → ((touch : Touch) (new : State) (c : Cell) (l : Location) → act ≡ Touches touch new → TouchesCell s.memory touch c → location_in (block_at s.memory c.block) c ≡ Some l → OwnsFor touch own l)
-      → ((grant : ℕ) → Went e p t duty S s (happens s grant act) rest) → Secure e p t duty S s own rest
+      → ((grant : ℕ) → Went e p t S duties s (happens s grant act) rest) → Secure e p t S duties s own rest
   secure s f frame callers step own rest act here direct is faultless owned goes =
       let now : next_act p s t ≡ act = act_here p s t f frame callers step here ∙ is in
       record {
         faultless = λ kind place h. faultless kind place (sym now ∙ h);
         owned = λ touch new c l h. owned touch new c l (sym now ∙ h);
-        direct = λ f' frame' callers' target pointer signature operands place next at. subst IsDirect (sym (same_place p s t f f' frame frame' callers callers' step _ here at).steps) direct;
-        unstarted = λ f' frame' callers' target g operands place next at. subst IsDirect (sym (same_place p s t f f' frame frame' callers callers' step _ here at).steps) direct;
-        goes = λ grant. subst (λ z. Went e p t duty S s z rest) (sym (after_here p s t grant act here.going now)) (goes grant);
+        unstarted = λ f' frame' callers' target g operands place next at. subst IsUnstarting (sym (same_place p s t f f' frame frame' callers callers' step _ here at).steps) direct;
+        goes = λ grant. subst (λ z. Went e p t S duties s z rest) (sym (after_here p s t grant act here.going now)) (goes grant);
       }
 
   -- inside of a body nothing is returned
   pub not_left : (s : State) (f : FunctionTree) (frame : Frame) (callers : Thread) (step : StepTree) → Here p s t f frame callers step → IsInside step → {A : Type 0} → (result : Option Value) → Returns p s t result → A
   not_left s f frame callers step here inside result r = absurd (subst IsInside (sym (same_place p s t f r.f frame r.frame callers r.callers step _ here r.at).steps) inside)
 
+  -- a step that is no call through a pointer calls through none
+  pub not_called : (s : State) (f : FunctionTree) (frame : Frame) (callers : Thread) (step : StepTree) → Here p s t f frame callers step → IsDirect step → {A : Type 0} → (grant : ℕ) (call : Promise) → CallsPointer e p s (event_of t grant) call → A
+  not_called s f frame callers step here direct grant call c = absurd (subst IsDirect (sym (same_place p s t f c.f frame c.frame callers c.callers step _ here c.at).steps) direct)
+
   -- a thread with other frames and the same memory
-  pub went_local : (s : State) (f : FunctionTree) (frame : Frame) (callers : Thread) (step : StepTree) (frames : Thread) (own rest all : Part) → Here p s t f frame callers step → IsSum own rest all → Fits all s.memory → IsTypedPart e p all → IsShaped p s.memory
-      → S frames own → ((result : Option Value) → Returns p s t result → depth s t ≡ 1 → Ensures e duty.contract duty.names result own)
-      → Went e p t duty S s (with_frames (turn_of s t frame callers) frames) rest
-  went_local s f frame callers step frames own rest all here sums fits typed shaped safe leaves = record {
+  pub went_local : (s : State) (f : FunctionTree) (frame : Frame) (callers : Thread) (step : StepTree) (frames : Thread) (own rest all : Part) → Here p s t f frame callers step → IsDirect step → IsInside step → Within (length frames) duties → IsSum own rest all → Fits all s.memory → IsTypedPart e p all → IsShaped p s.memory
+      → S duties frames own
+      → Went e p t S duties s (with_frames (turn_of s t frame callers) frames) rest
+  went_local s f frame callers step frames own rest all here direct inside within sums fits typed shaped safe = record {
     frames = frames;
     own = own;
     leaked = nothing;
@@ -143,8 +167,12 @@ module _ (e : Environment) (p : ProgramTree) (t : ℕ) (duty : Duty) (S : Thread
     alone = λ u other. set_other s.threads t u frames other;
     number = set_length s.threads t frames;
     unshared = λ b h. refl;
+    owing = duties;
+    within = within;
+    owes = duties_same duties;
     going = λ h. safe;
-    leaves = leaves;
+    called = λ grant call h. not_called s f frame callers step here direct grant call h;
+    leaves = λ result r n h. not_left s f frame callers step here inside result r;
   }
 
   goes_fault : {new : State} {kind : FaultKind} {place : Place} → Goes new ≡ Faults kind place → ⊥
@@ -154,12 +182,12 @@ module _ (e : Environment) (p : ProgramTree) (t : ℕ) (duty : Duty) (S : Thread
   goes_touch h = cc
 
   -- a step to other frames
-  pub local_secure : (s : State) (f : FunctionTree) (frame : Frame) (callers : Thread) (step : StepTree) (frames : Thread) (own rest all : Part) → Here p s t f frame callers step → IsDirect step → IsInside step
-      → act_of p (turn_of s t frame callers) step ≡ Goes (with_frames (turn_of s t frame callers) frames) → IsSum own rest all → Fits all s.memory → IsTypedPart e p all → IsShaped p s.memory → S frames own → Secure e p t duty S s own rest
-  local_secure s f frame callers step frames own rest all here direct inside is sums fits typed shaped safe =
-      secure s f frame callers step own rest (Goes (with_frames (turn_of s t frame callers) frames)) here direct is
+  pub local_secure : (s : State) (f : FunctionTree) (frame : Frame) (callers : Thread) (step : StepTree) (frames : Thread) (own rest all : Part) → Here p s t f frame callers step → IsDirect step → IsInside step → Within (length frames) duties
+      → act_of p (turn_of s t frame callers) step ≡ Goes (with_frames (turn_of s t frame callers) frames) → IsSum own rest all → Fits all s.memory → IsTypedPart e p all → IsShaped p s.memory → S duties frames own → Secure e p t S duties s own rest
+  local_secure s f frame callers step frames own rest all here direct inside within is sums fits typed shaped safe =
+      secure s f frame callers step own rest (Goes (with_frames (turn_of s t frame callers) frames)) here (direct_starts_none step direct) is
       (λ kind place h. goes_fault h) (λ touch new c l h. goes_touch h)
-      (λ grant. went_local s f frame callers step frames own rest all here sums fits typed shaped safe (λ result r one. not_left s f frame callers step here inside result r))
+      (λ grant. went_local s f frame callers step frames own rest all here direct inside within sums fits typed shaped safe)
 
   touches_fault : {touch : Touch} {new : State} {kind : FaultKind} {place : Place} → Touches touch new ≡ Faults kind place → ⊥
   touches_fault h = cc
@@ -168,19 +196,19 @@ module _ (e : Environment) (p : ProgramTree) (t : ℕ) (duty : Duty) (S : Thread
   touches_same h = cc
 
   -- a step that touches and goes to other frames, over the same memory
-  pub reading_secure : (s : State) (f : FunctionTree) (frame : Frame) (callers : Thread) (step : StepTree) (touch : Touch) (frames : Thread) (own rest all : Part) → Here p s t f frame callers step → IsDirect step → IsInside step
+  pub reading_secure : (s : State) (f : FunctionTree) (frame : Frame) (callers : Thread) (step : StepTree) (touch : Touch) (frames : Thread) (own rest all : Part) → Here p s t f frame callers step → IsDirect step → IsInside step → Within (length frames) duties
       → act_of p (turn_of s t frame callers) step ≡ Touches touch (with_frames (turn_of s t frame callers) frames) → IsSum own rest all → Fits all s.memory → IsTypedPart e p all → IsShaped p s.memory
-      → ((c : Cell) (l : Location) → TouchesCell s.memory touch c → location_in (block_at s.memory c.block) c ≡ Some l → OwnsFor touch own l) → S frames own → Secure e p t duty S s own rest
-  reading_secure s f frame callers step touch frames own rest all here direct inside is sums fits typed shaped owned safe =
-      secure s f frame callers step own rest (Touches touch (with_frames (turn_of s t frame callers) frames)) here direct is
+      → ((c : Cell) (l : Location) → TouchesCell s.memory touch c → location_in (block_at s.memory c.block) c ≡ Some l → OwnsFor touch own l) → S duties frames own → Secure e p t S duties s own rest
+  reading_secure s f frame callers step touch frames own rest all here direct inside within is sums fits typed shaped owned safe =
+      secure s f frame callers step own rest (Touches touch (with_frames (turn_of s t frame callers) frames)) here (direct_starts_none step direct) is
       (λ kind place h. touches_fault h) (λ touch' new c l h covers at. subst (λ z. OwnsFor z own l) (touches_same h) (owned c l (subst (λ z. TouchesCell s.memory z c) (sym (touches_same h)) covers) at))
-      (λ grant. went_local s f frame callers step frames own rest all here sums fits typed shaped safe (λ result r one. not_left s f frame callers step here inside result r))
+      (λ grant. went_local s f frame callers step frames own rest all here direct inside within sums fits typed shaped safe)
 
   -- a thread with other frames, another part and another memory, in which the mutexes and handles are as before
-  pub went_over : (s : State) (f : FunctionTree) (frame : Frame) (callers : Thread) (step : StepTree) (frames : Thread) (m : Memory) (own rest all : Part) → Here p s t f frame callers step → IsInside step
+  pub went_over : (s : State) (f : FunctionTree) (frame : Frame) (callers : Thread) (step : StepTree) (frames : Thread) (m : Memory) (own rest all : Part) → Here p s t f frame callers step → IsDirect step → IsInside step → Within (length frames) duties
       → IsSum own rest all → Fits all m → IsTypedPart e p all → IsShaped p m → ((b : ℕ) → IsShared (block_at m b) → block_at m b ≡ block_at s.memory b)
-      → S frames own → Went e p t duty S s (with_frames (over_memory (turn_of s t frame callers) m) frames) rest
-  went_over s f frame callers step frames m own rest all here inside sums fits typed shaped unshared safe = record {
+      → S duties frames own → Went e p t S duties s (with_frames (over_memory (turn_of s t frame callers) m) frames) rest
+  went_over s f frame callers step frames m own rest all here direct inside within sums fits typed shaped unshared safe = record {
     frames = frames;
     own = own;
     leaked = nothing;
@@ -195,19 +223,23 @@ module _ (e : Environment) (p : ProgramTree) (t : ℕ) (duty : Duty) (S : Thread
     alone = λ u other. set_other s.threads t u frames other;
     number = set_length s.threads t frames;
     unshared = unshared;
+    owing = duties;
+    within = within;
+    owes = duties_same duties;
     going = λ h. safe;
-    leaves = λ result r one. not_left s f frame callers step here inside result r;
+    called = λ grant call h. not_called s f frame callers step here direct grant call h;
+    leaves = λ result r n h. not_left s f frame callers step here inside result r;
   }
 
   -- a step that touches and goes to another memory
-  pub writing_secure : (s : State) (f : FunctionTree) (frame : Frame) (callers : Thread) (step : StepTree) (touch : Touch) (frames : Thread) (m : Memory) (own rest own' all' : Part) → Here p s t f frame callers step → IsDirect step → IsInside step
+  pub writing_secure : (s : State) (f : FunctionTree) (frame : Frame) (callers : Thread) (step : StepTree) (touch : Touch) (frames : Thread) (m : Memory) (own rest own' all' : Part) → Here p s t f frame callers step → IsDirect step → IsInside step → Within (length frames) duties
       → act_of p (turn_of s t frame callers) step ≡ Touches touch (with_frames (over_memory (turn_of s t frame callers) m) frames) → IsSum own' rest all' → Fits all' m → IsTypedPart e p all' → IsShaped p m
       → ((b : ℕ) → IsShared (block_at m b) → block_at m b ≡ block_at s.memory b)
-      → ((c : Cell) (l : Location) → TouchesCell s.memory touch c → location_in (block_at s.memory c.block) c ≡ Some l → OwnsFor touch own l) → S frames own' → Secure e p t duty S s own rest
-  writing_secure s f frame callers step touch frames m own rest own' all' here direct inside is sums fits typed shaped unshared owned safe =
-      secure s f frame callers step own rest (Touches touch (with_frames (over_memory (turn_of s t frame callers) m) frames)) here direct is
+      → ((c : Cell) (l : Location) → TouchesCell s.memory touch c → location_in (block_at s.memory c.block) c ≡ Some l → OwnsFor touch own l) → S duties frames own' → Secure e p t S duties s own rest
+  writing_secure s f frame callers step touch frames m own rest own' all' here direct inside within is sums fits typed shaped unshared owned safe =
+      secure s f frame callers step own rest (Touches touch (with_frames (over_memory (turn_of s t frame callers) m) frames)) here (direct_starts_none step direct) is
       (λ kind place h. touches_fault h) (λ touch' new c l h covers at. subst (λ z. OwnsFor z own l) (touches_same h) (owned c l (subst (λ z. TouchesCell s.memory z c) (sym (touches_same h)) covers) at))
-      (λ grant. went_over s f frame callers step frames m own' rest all' here inside sums fits typed shaped unshared safe)
+      (λ grant. went_over s f frame callers step frames m own' rest all' here direct inside within sums fits typed shaped unshared safe)
 
 -- ---- typed parts
 pub typed_sum : (e : Environment) (p : ProgramTree) (q f all : Part) → IsSum q f all → IsTypedPart e p q → IsTypedPart e p f → IsTypedPart e p all

@@ -17,7 +17,7 @@ use Rattle.vf_rules.specs.Types.{IsOfType, IsTypedPart}
 use Rattle.vf_rules.specs.States.{SymbolicState}
 use Rattle.vf_rules.specs.Consume.{Consume}
 use Rattle.vf_rules.specs.Accept.{all_of_it, call_store, HasContract, IsAcceptedFunction}
-use Rattle.vf_safety.specs.Safe.{Duty, Safe, Continues}
+use Rattle.vf_safety.specs.Safe.{Duties, Safe, Continues}
 
 -- values are of the types of parameters, one by one
 abbrev pub AreOfTypes : List TypeTree → List Value → Type 0
@@ -45,16 +45,16 @@ pub record MayCall (e : Environment) (p : ProgramTree) (t number : ℕ) (f : Fun
 -- in a program whose functions are accepted, a call of one is safe for n steps beside whatever a thread keeps, where what comes after the call is, for fewer steps, with every part that satisfies the postcondition
 abbrev pub AcceptedCallsAreSafe : Type 0
 AcceptedCallsAreSafe =
-    (e : Environment) (p : ProgramTree) → AreAccepted e p → (t : ℕ) (duty : Duty) (number : ℕ) (f : FunctionTree) (k : ContractTree) (arguments : List Value) (names : Valuation) (rest own : Part)
+    (e : Environment) (p : ProgramTree) → AreAccepted e p → (t : ℕ) (duties : Duties) (number : ℕ) (f : FunctionTree) (k : ContractTree) (arguments : List Value) (names : Valuation) (rest own : Part)
     → MayCall e p t number f k arguments names rest own → (callers : Thread) (target : Option ℕ) (n : ℕ)
-    → Continues e p t duty n callers target f.signature.result k names rest → Safe e p t duty n (entered number f arguments target ∷ callers) own
+    → Continues e p t duties n callers target f.signature.result k names rest → Safe e p t duties n (entered number f arguments target ∷ callers) own
 
 -- in a program whose functions are accepted, a thread whose first call is of one is safe for every number of steps, and its duty is the postcondition
 abbrev pub AcceptedThreadsAreSafe : Type 0
 AcceptedThreadsAreSafe =
     (e : Environment) (p : ProgramTree) → AreAccepted e p → (t number : ℕ) (f : FunctionTree) (k : ContractTree) (arguments : List Value) (names : Valuation) (own rest : Part)
     → rest ≡ nothing → MayCall e p t number f k arguments names rest own → (n : ℕ)
-    → Safe e p t (record { contract = k; names = names }) n (entered number f arguments None ∷ []) own
+    → Safe e p t (record { contract = k; names = names; rest = nothing; below = 0 } ∷ []) n (entered number f arguments None ∷ []) own
 
 -- before its first step main has no locals and no chunks, and nothing is known but which name the thread has
 abbrev pub before_main : SymbolicState
