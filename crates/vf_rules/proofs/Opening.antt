@@ -193,7 +193,7 @@ unfolding completed
 completed_sorted e v sorts h s so k b known =
     completed_sorted_at e v (s (Numbered k)) _ b (λ t is. so k b t is known) (sorted_at e v sorts h k b known (slice_get sorts k) refl)
 
-counted_row : (us : List Value) → count (in_row us) ≡ length us
+pub counted_row : (us : List Value) → count (in_row us) ≡ length us
 counted_row [] = refl
 counted_row (u ∷ us) = ap suc (counted_row us)
 
@@ -211,7 +211,7 @@ row_at e v (t ∷ ts) zero l = (t, refl, refl)
 row_at e v (t ∷ ts) (suc k) l = row_at e v ts k (omega (arith, l))
 
 -- the first names have the values of a row of terms
-begins_row : (e : Environment) (v w : Valuation) (ts : List Term) → StoreMeans e v (store_of ts) w → BeginsWith w (in_row (map (value_in e v) ts))
+pub begins_row : (e : Environment) (v w : Valuation) (ts : List Term) → StoreMeans e v (store_of ts) w → BeginsWith w (in_row (map (value_in e v) ts))
 begins_row e v w ts m k l =
     let at = row_at e v ts k (omega (arith, l, counted_row (map (value_in e v) ts), mapped_length e v ts)) in
     sym (m (Numbered k) at.0 at.1) ∙ at.2
@@ -224,7 +224,7 @@ arguments_sorted : (e : Environment) (v : Valuation) (path : List Fact) (sorts :
 arguments_sorted e v path sorts ts h m k so t is known = (h k so t known is).by v m
 
 -- the names that were bound before have the same terms, with the same values
-still_mean : (e : Environment) (v u w : Valuation) (s r : Store) → Grows s r → ((x : Name) (t : Term) → s x ≡ Some t → value_in e u t ≡ value_in e v t) → StoreMeans e u r w → StoreMeans e v s w
+pub still_mean : (e : Environment) (v u w : Valuation) (s r : Store) → Grows s r → ((x : Name) (t : Term) → s x ≡ Some t → value_in e u t ≡ value_in e v t) → StoreMeans e u r w → StoreMeans e v s w
 still_mean e v u w s r g stays m x t h = sym (stays x t h) ∙ m x t (g x t h)
 
 pub closing_keeps : ClosingKeeps

@@ -1,13 +1,13 @@
 -- When the body of a function is accepted: a rule for each core step, and rules for what annotations do between them.
-use Rattle.std.specs.Prelude.{◌≡◌, ◌⊎◌, ℕ, zero, suc, pos, ◌≤◌, ◌-◌, ◌≢◌, List, [], ◌∷◌, ◌++◌, map, replicate, length, drop, slice_get, slice_set, Option, Some, None}
+use Rattle.std.specs.Prelude.{IsTrue, ◌≡◌, ◌⊎◌, ℕ, zero, suc, pos, ◌≤◌, ◌-◌, ◌≢◌, List, [], ◌∷◌, ◌++◌, map, replicate, length, drop, slice_get, slice_set, Option, Some, None}
 use Rattle.vf_base.specs.declared.place.Place.{Place}
 use Rattle.vf_base.specs.declared.int_type.IntType.TheVariants as types
-use Rattle.vf_tree.specs.Core.{Identity, Field, TypeTree, Void, Integer, ExpressionTree, Comparison, StepTree, Set, Load, Store, Allocate, Free, Call, If, Return, FunctionTree, ProgramTree, NotEqual, LessEqual}
+use Rattle.vf_tree.specs.Core.{Identity, Field, TypeTree, Void, Integer, ExpressionTree, Comparison, StepTree, Set, Load, Store, Allocate, Free, Call, CallPointer, Signature, If, Return, FunctionTree, ProgramTree, NotEqual, LessEqual}
 use Rattle.vf_model.specs.Accesses.{field_count}
 use Rattle.vf_model.specs.State.{function_named}
 use Rattle.vf_model.specs.PreludeFunctions.{PreludeFunction, Abort, PutChar, PrintInt, prelude_named}
 use Rattle.vf_meaning.specs.Fractions.{whole}
-use Rattle.vf_meaning.specs.Ghost.{Sort, Name, Pointers, Result, CurrentThread, Variable, Null, Not, Compare, Fraction}
+use Rattle.vf_meaning.specs.Ghost.{Sort, Name, Pointers, Result, This, CurrentThread, Variable, Claims, Null, Not, Compare, Fraction}
 use Rattle.vf_meaning.specs.Ghost as ghost
 use Rattle.vf_meaning.specs.Kept.{IsFixed}
 use Rattle.vf_meaning.specs.Assertions.{BlockOf, Assertion, ContractTree, Environment}
@@ -80,6 +80,19 @@ facts_of_sorts _ _ = []
 abbrev pub call_store : List Term → terms.Store
 call_store ts = stored (store_of ts) CurrentThread (Variable CurrentThread)
 
+-- the store of a function type's contract at a call: the arguments, the thread, and the called value
+abbrev pub pointer_store : List Term → Term → terms.Store
+pointer_store ts t = stored (call_store ts) This t
+
+-- a function of the program that is no prelude function has a signature
+pub record HasSignature (p : ProgramTree) (g : Identity) (signature : Signature) : Type 0 where
+  pub outside : prelude_named g ≡ None
+  pub number : ℕ
+  pub function : FunctionTree
+  pub named : function_named p g ≡ Some number
+  pub is : slice_get p.functions number ≡ Some function
+  pub signature_is : function.signature ≡ signature
+
 -- the contract of a function, with what a call of it needs: as many parameters, and sorts that have values
 pub record HasContract (e : Environment) (f : FunctionTree) (k : ContractTree) : Type 0 where
   pub known : e.functions f.identity ≡ Some k
@@ -143,6 +156,17 @@ pub data Accepts (e : Environment) (p : ProgramTree) (f : FunctionTree) (k : Con
       → Consume e p k.sorts all_of_it k.ensures_this (stored st.names Result t) st (λ s1 st1. (st1.chunks ≡ []) × KeepsFixed k st.names s1) → Accepts e p f k now soon n st
   do_leave : {now soon : List Loop} {n : ℕ} {st : SymbolicState} → slice_get f.steps n ≡ Some (Return None) → f.signature.result ≡ Void
       → Consume e p k.sorts all_of_it k.ensures_this st.names st (λ s1 st1. (st1.chunks ≡ []) × KeepsFixed k st.names s1) → Accepts e p f k now soon n st
+  do_call_pointer : {now soon : List Loop} {n : ℕ} {st : SymbolicState} (target : Option ℕ) (a : ExpressionTree) (signature : Signature) (operands : List ExpressionTree) (place : Place) (next : ℕ) (type : Identity) (contract : ContractTree) (t : Term) (ts : List Term) (outs : List Outcome)
+      → slice_get f.steps n ≡ Some (CallPointer target a signature operands place next) → e.called f.identity n ≡ Some type → e.types type ≡ Some contract → st.names CurrentThread ≡ Some (Variable CurrentThread)
+      → ((g : Identity) → IsTrue (e.claims g type) → HasSignature p g signature) → AreInhabited e contract.sorts
+      → Evaluates e st.path st.locals a t → Entails e st.path (Holds (Claims type t))
+      → (signature.result ≡ Void → target ≡ None) → EvaluatesAll e st.path st.locals operands ts → length ts ≡ contract.parameters
+      → EntailsAll e st.path (facts_of_types signature.parameters ts) → AreSorted e st.path contract.sorts ts
+      → Consume e p contract.sorts all_of_it contract.requires_this (pointer_store ts t) st (λ s1 st1.
+      (y : ℕ) × IsNew y all_of_it s1 [] st1 × AreFixed contract s1
+      × Produce e p contract.sorts all_of_it contract.ensures_this (stored s1 Result (symbol y)) (assuming_all st1 (facts_of_result signature.result (symbol y)))
+      (λ s2 st2. IsAmong outs s2 (receiving target (symbol y) st2)))
+      → ((s : terms.Store) (su : SymbolicState) → IsAmong outs s su → Accepts e p f k soon soon next su) → Accepts e p f k now soon n st
   do_abort : {now soon : List Loop} {n : ℕ} {st : SymbolicState} (target : Option ℕ) (g : Identity) (place : Place) (next : ℕ) → slice_get f.steps n ≡ Some (Call target g [] place next) → prelude_named g ≡ Some Abort → Accepts e p f k now soon n st
   do_put_char : {now soon : List Loop} {n : ℕ} {st : SymbolicState} (target : Option ℕ) (g : Identity) (a : ExpressionTree) (place : Place) (next y : ℕ) (t : Term) → slice_get f.steps n ≡ Some (Call target g (a ∷ []) place next) → prelude_named g ≡ Some PutChar
       → Evaluates e st.path st.locals a t → EntailsAll e st.path (facts_of_byte t) → IsFresh y st

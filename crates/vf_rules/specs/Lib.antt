@@ -12,3 +12,4 @@ pub mod Loops
 pub mod LoopLaws
 pub mod Evaluate
 pub mod Accept
+pub mod Claims

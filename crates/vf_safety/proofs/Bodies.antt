@@ -1,5 +1,5 @@
 -- An accepted body is safe for every number of steps, where the functions of the program are safe for fewer.
-use Rattle.std.proofs.Common.{◌≡◌, ◌≢◌, ℕ, zero, suc, ◌<◌, ◌≤◌, ◌==◌, pos, Bool, true, false, cond, not, List, [], ◌∷◌, ◌++◌, length, map, slice_get, slice_set, Option, Some, None, refl, sym, ap, subst, subst₂, ◌∙◌, inl, inr, arith}
+use Rattle.std.proofs.Common.{◌≡◌, ◌≢◌, ℕ, zero, suc, ◌<◌, ◌≤◌, ◌==◌, pos, Bool, true, false, cond, not, List, [], ◌∷◌, ◌++◌, length, map, slice_get, slice_set, Option, Some, None, refl, sym, ap, ap₂, subst, subst₂, ◌∙◌, inl, inr, arith}
 use Rattle.std.specs.Prelude.{IsTrue}
 use Rattle.std.specs.FinMap as finite
 use Rattle.std.proofs.lemmas.Bool.{cases_Bool}
@@ -43,7 +43,16 @@ use Rattle.vf_rules.specs.Consume.{EntailsAll, Consume}
 use Rattle.vf_rules.specs.Laws.{Outcome, IsAmong, Grows, StoreSorted}
 use Rattle.vf_rules.specs.Predicates.{store_of, AreSorted}
 use Rattle.vf_rules.specs.Evaluate.{Evaluates, EvaluatesAll, IsOfC}
-use Rattle.vf_rules.specs.Accept.{all_of_it, receiving, cell_chunk, new_chunks, TakesFields, facts_of_types, facts_of_result, call_store, HasContract, AreFixed, KeepsFixed, Accepts, do_set, do_if, do_load, do_store, do_allocate, do_free_null, do_free, do_call, do_return, do_leave, may_drop, may_change, may_open, may_close, IsOneOf, may_enter, may_repeat, may_split, may_leak, do_abort, do_put_char, do_print_int}
+use Rattle.vf_rules.specs.Accept.{all_of_it, receiving, cell_chunk, new_chunks, TakesFields, facts_of_types, facts_of_result, call_store, HasContract, AreFixed, KeepsFixed, Accepts, do_set, do_if, do_load, do_store, do_allocate, do_free_null, do_free, do_call, do_return, do_leave, may_drop, may_change, may_open, may_close, IsOneOf, may_enter, may_repeat, may_split, may_leak, do_abort, do_put_char, do_print_int, do_call_pointer, pointer_store, HasSignature}
+use Rattle.vf_rules.specs.Predicates.{AreInhabited}
+use Rattle.vf_meaning.specs.Valuations.{in_row, count}
+use Rattle.vf_meaning.specs.Satisfaction.{BeginsWith}
+use Rattle.vf_rules.proofs.Opening.{counted_row, begins_row}
+use Rattle.vf_tree.specs.Core.{Signature, CallPointer}
+use Rattle.vf_meaning.specs.Ghost.{This, Claims}
+use Rattle.vf_safety.specs.Safe.{Duty, Promised}
+use Rattle.vf_safety.proofs.Duties.{first_done, one_left}
+use Rattle.vf_safety.proofs.Calls.{claimed_function, pointer_act, entered_went}
 use Rattle.std.specs.Fmt.{signed_decimal}
 use Rattle.vf_base.specs.declared.int_type.IntType.TheVariants as int_types
 use Rattle.vf_model.specs.PreludeFunctions.{Abort, PutChar, PrintInt}
@@ -87,15 +96,32 @@ module _ (e : Environment) (p : ProgramTree) (t : ℕ) where
       → ((j : ℕ) (a : Value) → slice_get arguments j ≡ Some a → w (Numbered j) ≡ a) → w CurrentThread ≡ values.Number (pos t) → AreOfSorts e w k.sorts → Satisfies e whole k.requires_this w q → IsTypedPart e p own
       → IsSum q r own → Continues e p t duty n callers target f.signature.result k w r → Safe e p t duty n (entered number f arguments target ∷ callers) own
 
+  -- the same of a function under the contract of a type that it claims
+  abbrev pub TypeSafe : ℕ → ℕ → FunctionTree → ContractTree → Identity → Type 0
+  TypeSafe n number f k g =
+      (duty : Duties) (arguments : List Value) (w : Valuation) (callers : Thread) (target : Option ℕ) (q r own : Part) → length arguments ≡ k.parameters → AllMayBe f.signature.parameters arguments
+      → ((j : ℕ) (a : Value) → slice_get arguments j ≡ Some a → w (Numbered j) ≡ a) → w CurrentThread ≡ values.Number (pos t) → w This ≡ values.Function g → AreOfSorts e w k.sorts → Satisfies e whole k.requires_this w q → IsTypedPart e p own
+      → IsSum q r own → Continues e p t duty n callers target f.signature.result k w r → Safe e p t duty n (entered number f arguments target ∷ callers) own
+
   -- each function of the program is safe for fewer steps than n, under its contract
-  abbrev pub AllSafe : ℕ → Type 0
-  AllSafe n = (j : ℕ) → j < n → (number : ℕ) (f : FunctionTree) (k : ContractTree) → slice_get p.functions number ≡ Some f → HasContract e f k → FunctionSafe j number f k
+  abbrev pub FunctionsSafe : ℕ → Type 0
+  FunctionsSafe n = (j : ℕ) → j < n → (number : ℕ) (f : FunctionTree) (k : ContractTree) → slice_get p.functions number ≡ Some f → HasContract e f k → FunctionSafe j number f k
+
+  -- and under the contract of each type that it claims
+  abbrev pub TypesSafe : ℕ → Type 0
+  TypesSafe n =
+      (j : ℕ) → j < n → (g type : Identity) (k : ContractTree) → IsTrue (e.claims g type) → e.types type ≡ Some k → (number : ℕ) (f : FunctionTree) → function_named p g ≡ Some number → slice_get p.functions number ≡ Some f → TypeSafe j number f k g
+
+  -- both
+  pub record AllSafe (n : ℕ) : Type 0 where
+    pub functions : FunctionsSafe n
+    pub types : TypesSafe n
 
   all_fewer : (n : ℕ) → AllSafe (suc n) → AllSafe n
-  all_fewer n h j l = h j (omega (arith, l))
+  all_fewer n h = record { functions = λ j l. h.functions j (omega (arith, l)); types = λ j l. h.types j (omega (arith, l)) }
 
   below : (n m : ℕ) → n < m → AllSafe m → AllSafe n
-  below n m l h j i = h j (omega (arith, l, i))
+  below n m l h = record { functions = λ j i. h.functions j (omega (arith, l, i)); types = λ j i. h.types j (omega (arith, l, i)) }
 
 module _ (e : Environment) (p : ProgramTree) (t : ℕ) (duty : Duties) where
   fewer : (n : ℕ) (callers : Thread) (target : Option ℕ) (type : TypeTree) (k : ContractTree) (w : Valuation) (r : Part) → Continues e p t duty (suc n) callers target type k w r → Continues e p t duty n callers target type k w r
@@ -128,10 +154,10 @@ with_locals e v st locals names q x u w is m = record { path = m.path; locals_me
 pub nothing_left : (off left q : Part) → left ≡ nothing → IsSum off left q → off ≡ q
 nothing_left off left q is s = sym ((sums_turn off left q s).adds ∙ ap (λ z. z ⊕ off) is ∙ nothing-⊕ off)
 
-names_sorted : (e : Environment) (v : Valuation) (sorts : List Sort) (s : terms.Store) (w : Valuation) → StoreMeans e v s w → AreOfSorts e w sorts → StoreSorted e v sorts s
+pub names_sorted : (e : Environment) (v : Valuation) (sorts : List Sort) (s : terms.Store) (w : Valuation) → StoreMeans e v s w → AreOfSorts e w sorts → StoreSorted e v sorts s
 names_sorted e v sorts s w m h k so u is known = subst (λ z. HasSort e z so) (sym (m (Numbered k) u is)) (h k so known)
 
-result_store_sorted : (e : Environment) (v : Valuation) (sorts : List Sort) (s : terms.Store) (u : Term) → StoreSorted e v sorts s → StoreSorted e v sorts (stored s Result u)
+pub result_store_sorted : (e : Environment) (v : Valuation) (sorts : List Sort) (s : terms.Store) (u : Term) → StoreSorted e v sorts s → StoreSorted e v sorts (stored s Result u)
 result_store_sorted e v sorts s u h k so x is known = h k so x (sym (stored_other s Result (Numbered k) u (λ z. clash z)) ∙ is) known
   where
     clash : Numbered k ≡ Result → ⊥
@@ -542,7 +568,7 @@ module _ (e : Environment) (p : ProgramTree) (t : ℕ) (duty : Duties) (f : Func
   value_or v None u = u
   value_or v (Some z) u = value_in e v z
 
-  override : Valuation → terms.Store → Valuation → Valuation
+  pub override : Valuation → terms.Store → Valuation → Valuation
   override v s w x = value_or v (s x) (w x)
 
   or_is : (v : Valuation) (o : Option Term) (u : Value) (z : Term) → o ≡ Some z → value_in e v z ≡ value_or v o u
@@ -559,7 +585,7 @@ module _ (e : Environment) (p : ProgramTree) (t : ℕ) (duty : Duties) (f : Func
   or_sorted v None u so h is = is
   or_sorted v (Some z) u so h is = h z refl
 
-  override_means : (v : Valuation) (s : terms.Store) (w : Valuation) → StoreMeans e v s (override v s w)
+  pub override_means : (v : Valuation) (s : terms.Store) (w : Valuation) → StoreMeans e v s (override v s w)
   unfolding override
   override_means v s w x z h = or_is v (s x) (w x) z h
 
@@ -571,11 +597,11 @@ module _ (e : Environment) (p : ProgramTree) (t : ℕ) (duty : Duties) (f : Func
   unfolding override
   override_is v s w x u h is = or_else v (s x) (w x) u h is
 
-  not_result : (x : Name) → IsFixed k x → x ≢ Result
+  pub not_result : (x : Name) → IsFixed k x → x ≢ Result
   not_result x h is = subst (IsFixed k) is h
 
   -- a postcondition that was consumed
-  consumed_ensures : (v u : Valuation) (names : Valuation) (st : SymbolicState) (before after : terms.Store) (result : Option Value) (depth0 : ℕ) (off : Part) → StoreMeans e v st.names names → AreOfSorts e names k.sorts → StoreSorted e u k.sorts after
+  pub consumed_ensures : (v u : Valuation) (names : Valuation) (st : SymbolicState) (before after : terms.Store) (result : Option Value) (depth0 : ℕ) (off : Part) → StoreMeans e v st.names names → AreOfSorts e names k.sorts → StoreSorted e u k.sorts after
       → KeepsFixed k st.names after → ((x : Name) → IsFixed k x → before x ≡ st.names x) → ((x : Name) (z : Term) → before x ≡ Some z → value_in e u z ≡ value_in e v z)
       → StoreMeans e u after (with_result (override u after names) result)
       → ((w : Valuation) → StoreMeans e u after w → SatisfiesAt e depth0 whole k.ensures_this w off) → Ensures e k names result off
@@ -587,7 +613,7 @@ module _ (e : Environment) (p : ProgramTree) (t : ℕ) (duty : Duties) (f : Func
     satisfies = (depth0, satisfies (with_result (override u after names) result) means_after);
   }
 
-  result_means : (u : Valuation) (after : terms.Store) (names : Valuation) (z : Term) (w : Value) → after Result ≡ Some z → value_in e u z ≡ w → StoreMeans e u after (bound (override u after names) Result w)
+  pub result_means : (u : Valuation) (after : terms.Store) (names : Valuation) (z : Term) (w : Value) → after Result ≡ Some z → value_in e u z ≡ w → StoreMeans e u after (bound (override u after names) Result w)
   result_means u after names z w is value x y h =
       elim (cases_Bool (same_name x Result)) [
         | inl same_one ↦
@@ -680,41 +706,47 @@ module _ (e : Environment) (p : ProgramTree) (t : ℕ) (duty : Duties) (f : Func
   }
   resumed n next st su m j frame callers own own2 r (Some x) None y type v q l typed_result to value stands typed sums = none_some (sym (to typed_result))
 
-  result_facts : (v : Valuation) (type : TypeTree) (y : Term) (result : Option Value) → IsResult e p t type result → ((w : Value) → result ≡ Some w → value_in e v y ≡ w) → Meets e v (facts_of_result type y)
+  pub result_facts : (v : Valuation) (type : TypeTree) (y : Term) (result : Option Value) → IsResult e p t type result → ((w : Value) → result ≡ Some w → value_in e v y ≡ w) → Meets e v (facts_of_result type y)
   result_facts v type y (Some w) h is = type_met e v type y w (is w refl) h
   result_facts v type y None h is = subst (λ z. Meets e v (facts_of_type z y)) (sym h) tt
 
   -- the value of the symbol of a result
-  result_or : Option Value → Value → Value
+  pub result_or : Option Value → Value → Value
   result_or (Some w) u = w
   result_or None u = u
 
-  with_result_means : (v : Valuation) (s : terms.Store) (w : Valuation) (y : Term) (result : Option Value) → StoreMeans e v s w → value_in e v y ≡ result_or result (w Result) → StoreMeans e v (stored s Result y) (with_result w result)
+  pub with_result_means : (v : Valuation) (s : terms.Store) (w : Valuation) (y : Term) (result : Option Value) → StoreMeans e v s w → value_in e v y ≡ result_or result (w Result) → StoreMeans e v (stored s Result y) (with_result w result)
   unfolding result_or
   with_result_means v s w y (Some u) m is = bound_stored e v s w Result y u m is
   with_result_means v s w y None m is = stored_means e v s w Result y m is
 
-  with_result_sorted : (w : Valuation) (sorts : List Sort) (result : Option Value) → AreOfSorts e w sorts → AreOfSorts e (with_result w result) sorts
+  pub with_result_sorted : (w : Valuation) (sorts : List Sort) (result : Option Value) → AreOfSorts e w sorts → AreOfSorts e (with_result w result) sorts
   with_result_sorted w sorts None h = h
   with_result_sorted w sorts (Some u) h = result_sorted e w u sorts h
 
-  result_value : (result : Option Value) (u w : Value) → result ≡ Some w → result_or result u ≡ w
+  pub result_value : (result : Option Value) (u w : Value) → result ≡ Some w → result_or result u ≡ w
   unfolding result_or
   result_value (Some x) u w h = some_same h
   result_value None u w h = none_some h
 
-  result_bound : (w : Valuation) (result : Option Value) (u : Value) → result ≡ Some u → with_result w result Result ≡ u
+  pub result_bound : (w : Valuation) (result : Option Value) (u : Value) → result ≡ Some u → with_result w result Result ≡ u
   result_bound w (Some x) u h = bound_own w x ∙ some_same h
     where
       bound_own : (w : Valuation) (x : Value) → bound w Result x Result ≡ x
       bound_own w x = ap (λ b. cond b x (w Result)) ((tells_names Result Result).1 refl)
   result_bound w None u h = none_some h
 
-  sorted_arguments : (v : Valuation) (path : List Fact) (sorts : List Sort) (ts : List Term) → AreSorted e path sorts ts → Meets e v path → StoreSorted e v sorts (call_store ts)
+  pub sorted_arguments : (v : Valuation) (path : List Fact) (sorts : List Sort) (ts : List Term) → AreSorted e path sorts ts → Meets e v path → StoreSorted e v sorts (call_store ts)
   sorted_arguments v path sorts ts h m n so z is known = (h n so z known (sym (stored_other (store_of ts) CurrentThread (Numbered n) (Variable CurrentThread) (λ c. clash c)) ∙ is)).by v m
     where
       clash : Numbered n ≡ CurrentThread → ⊥
       clash c = cc
+
+  pointer_sorted : (v : Valuation) (sorts : List Sort) (ts : List Term) (z : Term) → StoreSorted e v sorts (call_store ts) → StoreSorted e v sorts (pointer_store ts z)
+  pointer_sorted v sorts ts z h n so u is known = h n so u (sym (stored_other (call_store ts) This (Numbered n) z (λ x. clash x)) ∙ is) known
+    where
+      clash : Numbered n ≡ This → ⊥
+      clash x = cc
 
   argument_at : (v : Valuation) (ts : List Term) (j : ℕ) (w : Value) → slice_get (map (value_in e v) ts) j ≡ Some w → (z : Term) × (slice_get ts j ≡ Some z) × (value_in e v z ≡ w)
   argument_at v [] j w h = none_some h
@@ -724,6 +756,33 @@ module _ (e : Environment) (p : ProgramTree) (t : ℕ) (duty : Duties) (f : Func
   mapped_long : (v : Valuation) (ts : List Term) → length (map (value_in e v) ts) ≡ length ts
   mapped_long v [] = refl
   mapped_long v (z ∷ ts) = ap suc (mapped_long v ts)
+
+  -- behind a call, in fewer steps
+  after_call : (n : ℕ) (st : SymbolicState) (m : ℕ) (frame : Frame) (callers : Thread) (own : Part) (target : Option ℕ) (next : ℕ) (type : TypeTree) (contract : ContractTree) (outs : List Outcome) (r : Ready n st (suc m) frame callers own)
+      → (type ≡ Void → target ≡ None)
+      → ((s : terms.Store) (su : SymbolicState) → IsAmong outs s su → (j : ℕ) → j < suc m → (fr : Frame) (own2 : Part) → Ready next su j fr callers own2 → Safe e p t duty j (fr ∷ callers) own2)
+      → (u : Valuation) (left : Part) (s1 : terms.Store) (st1 : SymbolicState) (y : ℕ) (names : Valuation) → IsNew y all_of_it s1 [] st1 → AreFixed contract s1 → StoreMeans e u s1 names
+      → Produce e p contract.sorts all_of_it contract.ensures_this (stored s1 Result (symbol y)) (assuming_all st1 (facts_of_result type (symbol y))) (λ s2 st2. IsAmong outs s2 (receiving target (symbol y) st2))
+      → StandsFor e u st1 frame.locals r.names left → (beside0 : Part) → IsSum left r.kept beside0
+      → (j : ℕ) → j < suc m → (result : Option Value) (q2 own2 : Part) → IsResult e p t type result → Ensures e contract names result q2 → IsTypedPart e p own2 → IsSum q2 beside0 own2
+      → Safe e p t duty j (state.with_result (at_step frame next) target result ∷ callers) own2
+  unfolding back_to
+  after_call n st m frame callers own target next type contract outs r to go u left s1 st1 y names fresh fixed means produce stands beside0 inner j l result q2 own2 typed_result ensured typed2 sums2 =
+      let w = ensured.later in
+      let later_means : StoreMeans e u s1 w = λ x z h. means x z h ∙ sym (ensured.fixed x (fixed x z h)) in
+      let yv = result_or result (w Result) in
+      let v2 = bound u (Numbered y) yv in
+      let own_symbol_is : value_in e v2 (symbol y) ≡ yv = own_symbol u y yv in
+      let value_is : (x : Value) → result ≡ Some x → value_in e v2 (symbol y) ≡ x = λ x h. own_symbol_is ∙ result_value result (w Result) x h in
+      let means2 = with_result_means v2 s1 w (symbol y) result (fresh_store e u y yv s1 w fresh.store later_means) own_symbol_is in
+      let stands2 = assuming_all_stands e v2 st1 frame.locals r.names left _ (result_facts v2 type (symbol y) result typed_result value_is) (stands_fresh e u y yv st1 frame.locals r.names left fresh.state stands) in
+      let inside = together q2 left r.kept beside0 own2 inner sums2 in
+      let o = produced e p contract.sorts all_of_it whole (ensured.satisfies).0 frame.locals r.names contract.ensures_this (stored s1 Result (symbol y)) (assuming_all st1 (facts_of_result type (symbol y)))
+      (λ s2 st2. IsAmong outs s2 (receiving target (symbol y) st2)) produce v2 (with_result w result) q2 left inside.0 stands2 means2 (with_result_sorted w contract.sorts result ensured.sorts) refl positive_whole (ensured.satisfies).1
+      (typed_of_left e p q2 beside0 own2 sums2 typed2) inside.1 in
+      let symbol_is : (x : Value) → result ≡ Some x → value_in e o.under (symbol y) ≡ x = λ x h. o.means Result (symbol y) (o.grows Result (symbol y) (stored_own s1 Result (symbol y))) ∙ result_bound w result x h in
+      go o.store (receiving target (symbol y) o.state) o.holds j l (state.with_result (at_step frame next) target result) own2
+      (resumed n next st o.state m j frame callers own own2 r target result (symbol y) type o.under inside.0 l typed_result to symbol_is o.stands typed2 inside.2)
 
   call_safe : (n : ℕ) (st : SymbolicState) (m : ℕ) (frame : Frame) (callers : Thread) (own : Part) (target : Option ℕ) (g : Identity) (operands : List ExpressionTree) (place : Place) (next number : ℕ) (callee : FunctionTree) (contract : ContractTree) (ts : List Term) (outs : List Outcome)
       → (r : Ready n st (suc m) frame callers own) → slice_get f.steps n ≡ Some (Call target g operands place next) → prelude_named g ≡ None → st.names CurrentThread ≡ Some (Variable CurrentThread) → function_named p g ≡ Some number → slice_get p.functions number ≡ Some callee
@@ -757,9 +816,9 @@ module _ (e : Environment) (p : ProgramTree) (t : ℕ) (duty : Duties) (f : Func
       let continues : Continues e p t duty m (at_step frame next ∷ callers) target callee.signature.result contract names inner.0 = λ j l result q2 own2 typed_result ensured typed2 sums2. (
         none_done e (suc (length callers)) duty result own2 within,
         subst (λ z. Safe e p t z j (returned e p t (at_step frame next ∷ callers) target result) own2) (sym (none_left (suc (length callers)) duty within))
-        (after_call n st m frame callers own target next callee contract outs r to go c.under c.left c.store c.state y names fresh fixed means produce c.stands inner.0 inner.1 j (less j m l) result q2 own2 typed_result ensured typed2 sums2),
+            (after_call n st m frame callers own target next callee.signature.result contract outs r to go c.under c.left c.store c.state y names fresh fixed means produce c.stands inner.0 inner.1 j (less j m l) result q2 own2 typed_result ensured typed2 sums2),
       ) in
-      let callee_safe = r.others m (omega arith) number callee contract callee_is has duty ws names (at_step frame next ∷ callers) target c.off inner.0 own (mapped_long v ts ∙ count)
+      let callee_safe = (r.others).functions m (omega arith) number callee contract callee_is has duty ws names (at_step frame next ∷ callers) target c.off inner.0 own (mapped_long v ts ∙ count)
       (types_back e v callee.signature.parameters ts (all_entailed e st.path _ types v (r.stands).path)) begins thread_is (completed_sorted e c.under contract.sorts has.inhabited c.store c.sorted)
       (c.depth, c.satisfies names means) r.typed inner.2 continues in
       local_secure e p t duty (λ ds. Safe e p t ds m) s f frame callers (Call target g operands place next) (entered number callee ws target ∷ at_step frame next ∷ callers) own rest all at (subst StartsNone (sym outside) tt) tt (one_more_call (suc (length callers)) duty within)
@@ -771,30 +830,117 @@ module _ (e : Environment) (p : ProgramTree) (t : ℕ) (duty : Duties) (f : Func
       less : (j m : ℕ) → j < m → j < suc m
       less j m l = omega (arith, l)
 
-      after_call : (n : ℕ) (st : SymbolicState) (m : ℕ) (frame : Frame) (callers : Thread) (own : Part) (target : Option ℕ) (next : ℕ) (callee : FunctionTree) (contract : ContractTree) (outs : List Outcome) (r : Ready n st (suc m) frame callers own)
-          → (callee.signature.result ≡ Void → target ≡ None)
-          → ((s : terms.Store) (su : SymbolicState) → IsAmong outs s su → (j : ℕ) → j < suc m → (fr : Frame) (own2 : Part) → Ready next su j fr callers own2 → Safe e p t duty j (fr ∷ callers) own2)
-          → (u : Valuation) (left : Part) (s1 : terms.Store) (st1 : SymbolicState) (y : ℕ) (names : Valuation) → IsNew y all_of_it s1 [] st1 → AreFixed contract s1 → StoreMeans e u s1 names
-          → Produce e p contract.sorts all_of_it contract.ensures_this (stored s1 Result (symbol y)) (assuming_all st1 (facts_of_result callee.signature.result (symbol y))) (λ s2 st2. IsAmong outs s2 (receiving target (symbol y) st2))
-          → StandsFor e u st1 frame.locals r.names left → (beside0 : Part) → IsSum left r.kept beside0
-          → (j : ℕ) → j < suc m → (result : Option Value) (q2 own2 : Part) → IsResult e p t callee.signature.result result → Ensures e contract names result q2 → IsTypedPart e p own2 → IsSum q2 beside0 own2
-          → Safe e p t duty j (state.with_result (at_step frame next) target result ∷ callers) own2
-      after_call n st m frame callers own target next callee contract outs r to go u left s1 st1 y names fresh fixed means produce stands beside0 inner j l result q2 own2 typed_result ensured typed2 sums2 =
-          let w = ensured.later in
-          let later_means : StoreMeans e u s1 w = λ x z h. means x z h ∙ sym (ensured.fixed x (fixed x z h)) in
-          let yv = result_or result (w Result) in
-          let v2 = bound u (Numbered y) yv in
-          let own_symbol_is : value_in e v2 (symbol y) ≡ yv = own_symbol u y yv in
-          let value_is : (x : Value) → result ≡ Some x → value_in e v2 (symbol y) ≡ x = λ x h. own_symbol_is ∙ result_value result (w Result) x h in
-          let means2 = with_result_means v2 s1 w (symbol y) result (fresh_store e u y yv s1 w fresh.store later_means) own_symbol_is in
-          let stands2 = assuming_all_stands e v2 st1 frame.locals r.names left _ (result_facts v2 callee.signature.result (symbol y) result typed_result value_is) (stands_fresh e u y yv st1 frame.locals r.names left fresh.state stands) in
-          let inside = together q2 left r.kept beside0 own2 inner sums2 in
-          let o = produced e p contract.sorts all_of_it whole (ensured.satisfies).0 frame.locals r.names contract.ensures_this (stored s1 Result (symbol y)) (assuming_all st1 (facts_of_result callee.signature.result (symbol y)))
-          (λ s2 st2. IsAmong outs s2 (receiving target (symbol y) st2)) produce v2 (with_result w result) q2 left inside.0 stands2 means2 (with_result_sorted w contract.sorts result ensured.sorts) refl positive_whole (ensured.satisfies).1
-          (typed_of_left e p q2 beside0 own2 sums2 typed2) inside.1 in
-          let symbol_is : (x : Value) → result ≡ Some x → value_in e o.under (symbol y) ≡ x = λ x h. o.means Result (symbol y) (o.grows Result (symbol y) (stored_own s1 Result (symbol y))) ∙ result_bound w result x h in
-          go o.store (receiving target (symbol y) o.state) o.holds j l (state.with_result (at_step frame next) target result) own2
-          (resumed n next st o.state m j frame callers own own2 r target result (symbol y) callee.signature.result o.under inside.0 l typed_result to symbol_is o.stands typed2 inside.2)
+  -- ---- calls through pointers
+  numbers_only : (v u : Valuation) (ts : List Term) (s r : terms.Store) (names : Valuation) → ((j : ℕ) (z : Term) → slice_get ts j ≡ Some z → s (Numbered j) ≡ Some z) → Grows s r → ((x : Name) (z : Term) → s x ≡ Some z → value_in e u z ≡ value_in e v z)
+      → StoreMeans e u r names → StoreMeans e v (store_of ts) names
+  numbers_only v u ts s r names there grows stays means (Numbered j) z is = sym (stays (Numbered j) z (there j z is)) ∙ means (Numbered j) z (grows (Numbered j) z (there j z is))
+  numbers_only v u ts s r names there grows stays means Result z is = none_some is
+  numbers_only v u ts s r names there grows stays means This z is = none_some is
+  numbers_only v u ts s r names there grows stays means CurrentThread z is = none_some is
+
+  pointer_same : {target target' : Option ℕ} {a a' : ExpressionTree} {signature signature' : Signature} {operands operands' : List ExpressionTree} {place place' : Place} {next next' : ℕ}
+      → CallPointer target a signature operands place next ≡ CallPointer target' a' signature' operands' place' next' → (a ≡ a') × (operands ≡ operands')
+  pointer_same h = (cc, cc)
+
+  gives_all : {us ws : List Value} → Gives us ≡ Gives ws → us ≡ ws
+  gives_all h = cc
+
+  -- the call that the machine sees is the one that the rule has
+  promised : (s : State) (frame : Frame) (callers : Thread) (own : Part) (n : ℕ) (target : Option ℕ) (a : ExpressionTree) (signature : Signature) (operands : List ExpressionTree) (place : Place) (next : ℕ) (type g : Identity) (contract : ContractTree) (ws : List Value) (names : Valuation) (off beside0 : Part)
+      → Here p s t f frame callers (CallPointer target a signature operands place next) → frame.step ≡ n → e.called f.identity n ≡ Some type → e.types type ≡ Some contract → evaluate frame.locals a ≡ Gives (values.Function g) → evaluate_all frame.locals operands ≡ Gives ws
+      → IsTrue (e.claims g type) → length ws ≡ contract.parameters → BeginsWith names (in_row ws) → names This ≡ values.Function g → names CurrentThread ≡ values.Number (pos t) → AreOfSorts e names contract.sorts → Satisfies e whole contract.requires_this names off → IsSum off beside0 own
+      → (grant : ℕ) (call : Promise) → CallsPointer e p s (event_of t grant) call → Promised e call duty (record { contract = contract; names = names; rest = beside0; below = suc (length callers) } ∷ duty) own
+  promised s frame callers own n target a signature operands place next type g contract ws names off beside0 at step called of_type value arguments claimed long begins this_is thread sorts required sums grant call h =
+      let same_at = same_place p s t f h.f frame h.frame callers h.callers (CallPointer target a signature operands place next) _ at h.at in
+      let parts = pointer_same (sym same_at.steps) in
+      let type_is : type ≡ call.type = some_same (sym called ∙ ap₂ (λ (z : FunctionTree) k0. e.called z.identity k0) (sym same_at.functions) (sym step ∙ ap (λ (z : Frame). z.step) (sym same_at.frames)) ∙ h.type) in
+      let callee_is : call.callee ≡ values.Function g = gives_same (sym h.callee ∙ ap₂ (λ (z : Frame) x. evaluate z.locals x) same_at.frames (sym parts.0) ∙ value) in
+      let values_are : h.values ≡ ws = gives_all (sym h.evaluated ∙ ap₂ (λ (z : Frame) x. evaluate_all z.locals x) same_at.frames (sym parts.1) ∙ arguments) in
+      let row_is : call.arguments ≡ in_row ws = h.arguments ∙ ap in_row values_are in
+      record {
+        duty = record { contract = contract; names = names; rest = beside0; below = suc (length callers) };
+        pushed = refl;
+        function = g;
+        callee = callee_is;
+        claimed = subst (λ z. IsTrue (e.claims g z)) type_is claimed;
+        of_type = subst (λ z. e.types z ≡ Some contract) type_is of_type;
+        valued = record {
+          this_one = this_is;
+          current = thread ∙ ap (λ z. values.Number (pos z)) (sym h.thread);
+          number = ap count row_is ∙ counted_row ws ∙ long;
+          begins = subst (BeginsWith names) (sym row_is) begins;
+          sorts = sorts;
+        };
+        passed = off;
+        required = required;
+        sums = sums;
+        below = ap (λ (z : Thread). suc (length z)) (sym same_at.callers_are) ∙ sym h.below;
+      }
+
+  call_pointer_safe : (n : ℕ) (st : SymbolicState) (m : ℕ) (frame : Frame) (callers : Thread) (own : Part) (target : Option ℕ) (a : ExpressionTree) (signature : Signature) (operands : List ExpressionTree) (place : Place) (next : ℕ) (type : Identity) (contract : ContractTree) (z : Term) (ts : List Term) (outs : List Outcome)
+      → (r : Ready n st (suc m) frame callers own) → slice_get f.steps n ≡ Some (CallPointer target a signature operands place next) → e.called f.identity n ≡ Some type → e.types type ≡ Some contract → st.names CurrentThread ≡ Some (Variable CurrentThread)
+      → ((g : Identity) → IsTrue (e.claims g type) → HasSignature p g signature) → AreInhabited e contract.sorts
+      → Evaluates e st.path st.locals a z → Entails e st.path (Holds (Claims type z))
+      → (signature.result ≡ Void → target ≡ None) → EvaluatesAll e st.path st.locals operands ts → length ts ≡ contract.parameters
+      → EntailsAll e st.path (facts_of_types signature.parameters ts) → AreSorted e st.path contract.sorts ts
+      → Consume e p contract.sorts all_of_it contract.requires_this (pointer_store ts z) st (λ s1 st1.
+      (y : ℕ) × IsNew y all_of_it s1 [] st1 × AreFixed contract s1
+      × Produce e p contract.sorts all_of_it contract.ensures_this (stored s1 Result (symbol y)) (assuming_all st1 (facts_of_result signature.result (symbol y)))
+      (λ s2 st2. IsAmong outs s2 (receiving target (symbol y) st2)))
+      → ((s : terms.Store) (su : SymbolicState) → IsAmong outs s su → (j : ℕ) → j < suc m → (fr : Frame) (own2 : Part) → Ready next su j fr callers own2 → Safe e p t duty j (fr ∷ callers) own2)
+      → Safe e p t duty (suc m) (frame ∷ callers) own
+  unfolding back_to
+  call_pointer_safe n st m frame callers own target a signature operands place next type contract z ts outs r is called of_type of_thread signed inhabited ep claims to ev long types sorted consume go s rest all going frames within sums fits typed shaped =
+      let v = r.symbols in
+      let ws = map (value_in e v) ts in
+      let at = here n st (suc m) frame callers own s (CallPointer target a signature operands place next) r is going frames in
+      let (g, is_g, claimed) = claimed_function e type (value_in e v z) (claims.by v (r.stands).path) in
+      let sig = signed g claimed in
+      let pointer = evaluates e v st.path st.locals frame.locals a z ep (r.stands).path (r.stands).locals_mean ∙ ap Gives is_g in
+      let value = evaluates_all e v st.path st.locals frame.locals operands ts ev (r.stands).path (r.stands).locals_mean in
+      let c = consumed e p contract.sorts all_of_it whole frame.locals r.names contract.requires_this (pointer_store ts z) st _ consume v r.part r.stands
+      (pointer_sorted v contract.sorts ts z (sorted_arguments v st.path contract.sorts ts sorted (r.stands).path)) refl in
+      let (y, fresh, fixed, produce) = c.holds in
+      let names = completed e c.under contract.sorts inhabited c.store in
+      let means = completed_means e c.under contract.sorts inhabited c.store in
+      let inner = apart c.off c.left r.part r.kept own c.sums r.sums in
+      let bound_is : (x : Name) (u : Term) → pointer_store ts z x ≡ Some u → names x ≡ value_in e v u = λ x u known. sym (means x u (c.grows x u known)) ∙ c.stays x u known in
+      let thread_there = stored_other (call_store ts) This CurrentThread z (λ h. thread_this h) ∙ stored_own (store_of ts) CurrentThread (Variable CurrentThread) in
+      let thread_is : names CurrentThread ≡ values.Number (pos t) = bound_is CurrentThread (Variable CurrentThread) thread_there ∙ (r.stands).names_mean CurrentThread (Variable CurrentThread) of_thread ∙ r.thread in
+      let this_is : names This ≡ values.Function g = bound_is This z (stored_own (call_store ts) This z) ∙ is_g in
+      let number_there : (j : ℕ) (u : Term) → slice_get ts j ≡ Some u → pointer_store ts z (Numbered j) ≡ Some u = λ j u h. stored_other (call_store ts) This (Numbered j) z (λ x. number_this x) ∙ stored_other (store_of ts) CurrentThread (Numbered j) (Variable CurrentThread) (λ x. number_current x) ∙ h in
+      let begins : (j : ℕ) (w : Value) → slice_get ws j ≡ Some w → names (Numbered j) ≡ w = λ j w h. let x = argument_at v ts j w h in bound_is (Numbered j) x.0 (number_there j x.0 x.1) ∙ x.2 in
+      let row = begins_row e v names ts (numbers_only v c.under ts (pointer_store ts z) c.store names number_there c.grows c.stays means) in
+      let d : Duty = record { contract = contract; names = names; rest = inner.0; below = suc (length callers) } in
+      let of_sorts = completed_sorted e c.under contract.sorts inhabited c.store c.sorted in
+      let continues : Continues e p t (d ∷ duty) m (at_step frame next ∷ callers) target signature.result contract names inner.0 = λ j l result q2 own2 typed_result ensured typed2 sums2. (
+        first_done e (suc (length callers)) d duty result own2 (q2, ensured, sums2),
+        subst (λ x. Safe e p t x j (returned e p t (at_step frame next ∷ callers) target result) own2) (sym (one_left (suc (length callers)) d duty refl))
+            (after_call n st m frame callers own target next signature.result contract outs r to go c.under c.left c.store c.state y names fresh fixed means produce c.stands inner.0 inner.1 j (one_below j m l) result q2 own2 typed_result ensured typed2 sums2),
+      ) in
+      let callee_safe = (r.others).types m (omega arith) g type contract claimed of_type sig.number sig.function sig.named sig.is (d ∷ duty) ws names (at_step frame next ∷ callers) target c.off inner.0 own (mapped_long v ts ∙ long)
+      (subst (λ (x : Signature). AllMayBe x.parameters ws) (sym sig.signature_is) (types_back e v signature.parameters ts (all_entailed e st.path _ types v (r.stands).path))) begins thread_is this_is of_sorts
+      (c.depth, c.satisfies names means) r.typed inner.2 (subst (λ (x : Signature). Continues e p t (d ∷ duty) m (at_step frame next ∷ callers) target x.result contract names inner.0) (sym sig.signature_is) continues) in
+      secure e p t duty (λ ds. Safe e p t ds m) s f frame callers (CallPointer target a signature operands place next) own rest (Goes (with_frames (turn_of s t frame callers) (entered sig.number sig.function ws target ∷ at_step frame next ∷ callers))) at tt
+      (pointer_act p s t frame callers target a signature operands place next g sig ws pointer value)
+      (λ kind place h. goes_fault h) (λ touch new c0 l h. goes_touch h)
+      (λ grant. entered_went e p t duty (λ ds. Safe e p t ds m) s frame callers (entered sig.number sig.function ws target ∷ at_step frame next ∷ callers) d own rest all sums fits typed shaped frames callee_safe
+      (omega arith, within) (depth_is s frame callers frames)
+      (λ grant0 call h. promised s frame callers own n target a signature operands place next type g contract ws names c.off inner.0 at r.step called of_type pointer value claimed (mapped_long v ts ∙ long)
+      (subst (λ x. BeginsWith names (in_row x)) refl row) this_is thread_is of_sorts (c.depth, c.satisfies names means) inner.2 grant0 call h)
+      (λ result back. not_left e p t duty (λ ds. Safe e p t ds m) s f frame callers (CallPointer target a signature operands place next) at tt result back))
+    where
+      one_below : (j m : ℕ) → j < m → j < suc m
+      one_below j m l = omega (arith, l)
+
+      thread_this : CurrentThread ≡ This → ⊥
+      thread_this h = cc
+
+      number_this : {j : ℕ} → Numbered j ≡ This → ⊥
+      number_this h = cc
+
+      number_current : {j : ℕ} → Numbered j ≡ CurrentThread → ⊥
+      number_current h = cc
 
   -- ---- calls of the prelude that touch no memory
   abort_safe : (n : ℕ) (st : SymbolicState) (m : ℕ) (frame : Frame) (callers : Thread) (own : Part) (target : Option ℕ) (g : Identity) (place : Place) (next : ℕ) → (r : Ready n st (suc m) frame callers own) → slice_get f.steps n ≡ Some (Call target g [] place next)
@@ -931,3 +1077,6 @@ module _ (e : Environment) (p : ProgramTree) (t : ℕ) (duty : Duties) (f : Func
       put_safe n st m frame callers own target g a place next y u r is named ev fresh (λ w k0. body_safe go m i (heads_below soon m (suc m) (omega arith) i) _ callers own k0)
   body_safe {now} {soon} {n} {st} (do_print_int target g a place next u is named ev go) (suc m) h i frame callers own r =
       print_safe n st m frame callers own target g a place next u r is named ev (λ k0. body_safe go m i (heads_below soon m (suc m) (omega arith) i) _ callers own k0)
+  body_safe {now} {soon} {n} {st} (do_call_pointer target a signature operands place next type contract u ts outs is called of_type of_thread signed inhabited ep claims to ev long types sorted consume go) (suc m) h i frame callers own r =
+      call_pointer_safe n st m frame callers own target a signature operands place next type contract u ts outs r is called of_type of_thread signed inhabited ep claims to ev long types sorted consume
+      (λ s su among j l fr own2 k0. body_safe (go s su among) j (heads_below soon (suc j) (suc m) (omega (arith, l)) i) (heads_below soon j (suc m) (omega (arith, l)) i) fr callers own2 k0)

@@ -35,7 +35,7 @@ none_some : {A B : Type 0} {x : A} → None ≡ Some x → B
 none_some e = cc
 
 -- a valuation gives the names from a number on these values
-abbrev Row : Valuation → ℕ → List Value → Type 0
+abbrev pub Row : Valuation → ℕ → List Value → Type 0
 Row w i [] = Unit {0}
 Row w i (a ∷ ws) = (w (Numbered i) ≡ a) × Row w (suc i) ws
 
@@ -45,14 +45,14 @@ plus_zero i = omega arith
 plus_suc : (i j : ℕ) → suc i + j ≡ i + suc j
 plus_suc i j = omega arith
 
-row_of : (w : Valuation) (i : ℕ) (ws : List Value) → ((j : ℕ) (a : Value) → slice_get ws j ≡ Some a → w (Numbered (i + j)) ≡ a) → Row w i ws
+pub row_of : (w : Valuation) (i : ℕ) (ws : List Value) → ((j : ℕ) (a : Value) → slice_get ws j ≡ Some a → w (Numbered (i + j)) ≡ a) → Row w i ws
 row_of w i [] h = tt
 row_of w i (a ∷ ws) h = (ap (λ z. w (Numbered z)) (plus_zero i) ∙ h 0 a refl, row_of w (suc i) ws (λ j b is. ap (λ z. w (Numbered z)) (plus_suc i j) ∙ h (suc j) b is))
 
 zero_suc : (n : ℕ) → 0 ≡ suc n → ⊥
 zero_suc n h = cc
 
-zero_plus : (i : ℕ) → 0 + i ≡ i
+pub zero_plus : (i : ℕ) → 0 + i ≡ i
 zero_plus i = omega arith
 
 module _ (e : Environment) (w : Valuation) where
@@ -64,14 +64,14 @@ module _ (e : Environment) (w : Valuation) where
   type_may (PointerToStruct g) x a is m = type_met e w (PointerToStruct g) x a is m
   type_may (PointerToFunction g) x a is m = type_met e w (PointerToFunction g) x a is m
 
-  types_met : (i n : ℕ) (types : List TypeTree) (ws : List Value) → length ws ≡ n → Row w i ws → AllMayBe types ws → Meets e w (facts_of_types types (symbols_from i n))
+  pub types_met : (i n : ℕ) (types : List TypeTree) (ws : List Value) → length ws ≡ n → Row w i ws → AllMayBe types ws → Meets e w (facts_of_types types (symbols_from i n))
   types_met i n [] ws long row may = tt
   types_met i zero (t ∷ types) ws long row may = tt
   types_met i (suc n) (t ∷ types) [] long row may = absurd (zero_suc n long)
   types_met i (suc n) (t ∷ types) (a ∷ ws) long row may =
       meets_more e w (facts_of_type t (symbol i)) (facts_of_types types (symbols_from (suc i) n)) (type_may t (symbol i) a row.0 may.0) (types_met (suc i) n types ws (omega (arith, long)) row.1 may.1)
 
-  sorts_met : (i n : ℕ) (sorts : List Sort) → ((j : ℕ) (s : Sort) → slice_get sorts j ≡ Some s → HasSort e (w (Numbered (i + j))) s) → Meets e w (facts_of_sorts sorts (symbols_from i n))
+  pub sorts_met : (i n : ℕ) (sorts : List Sort) → ((j : ℕ) (s : Sort) → slice_get sorts j ≡ Some s → HasSort e (w (Numbered (i + j))) s) → Meets e w (facts_of_sorts sorts (symbols_from i n))
   sorts_met i n [] h = tt
   sorts_met i zero (s ∷ sorts) h = tt
   sorts_met i (suc n) (s ∷ sorts) h =
@@ -87,12 +87,12 @@ module _ (e : Environment) (w : Valuation) where
   locals_mean i (suc n) r [] long row = absurd (zero_suc n long)
   locals_mean i (suc n) r (a ∷ ws) long row = (ap Some (sym row.0), locals_mean (suc i) n r ws (omega (arith, long)) row.1)
 
-  symbol_at : (i n j : ℕ) (t : Term) → slice_get (symbols_from i n) j ≡ Some t → t ≡ symbol (i + j)
+  pub symbol_at : (i n j : ℕ) (t : Term) → slice_get (symbols_from i n) j ≡ Some t → t ≡ symbol (i + j)
   symbol_at i zero j t h = none_some h
   symbol_at i (suc n) zero t h = sym (some_same h) ∙ ap symbol (plus_zero i)
   symbol_at i (suc n) (suc j) t h = symbol_at (suc i) n j t h ∙ ap symbol (plus_suc i j)
 
-  symbols_mean : (n : ℕ) → StoreMeans e w (store_of (parameter_symbols n)) w
+  pub symbols_mean : (n : ℕ) → StoreMeans e w (store_of (parameter_symbols n)) w
   symbols_mean n (Numbered j) t h = ap (value_in e w) (symbol_at 0 n j t h) ∙ ap (λ z. w (Numbered z)) (zero_plus j)
   symbols_mean n Result t h = none_some h
   symbols_mean n This t h = none_some h
@@ -101,7 +101,7 @@ module _ (e : Environment) (w : Valuation) where
   pub begins_mean : (n : ℕ) → StoreMeans e w (call_store (parameter_symbols n)) w
   begins_mean n = stored_means e w (store_of (parameter_symbols n)) w CurrentThread (Variable CurrentThread) (symbols_mean n) refl
 
-neutral : (q : Part) → IsSum q nothing q
+pub neutral : (q : Part) → IsSum q nothing q
 neutral q = sums_turn nothing q q (nothing_is_neutral q)
 
 -- the beginning of a body stands for nothing
@@ -118,7 +118,7 @@ begins_stand e f k arguments w long may begins of_sorts =
     }
 
 module _ (e : Environment) (p : ProgramTree) (t : ℕ) where
-  function_safe : (number : ℕ) (f : FunctionTree) (k : ContractTree) → slice_get p.functions number ≡ Some f → IsAcceptedFunction e p f k → (n : ℕ) → AllSafe e p t n → FunctionSafe e p t n number f k
+  pub function_safe : (number : ℕ) (f : FunctionTree) (k : ContractTree) → slice_get p.functions number ≡ Some f → IsAcceptedFunction e p f k → (n : ℕ) → AllSafe e p t n → FunctionSafe e p t n number f k
   function_safe number f k is accepted n fewer duty arguments w callers target q r own long may begins thread of_sorts required typed sums continues =
       let parameters = (accepted.contract).parameters in
       let count : length arguments ≡ length f.signature.parameters = long ∙ parameters in
@@ -142,34 +142,17 @@ module _ (e : Environment) (p : ProgramTree) (t : ℕ) where
         others = fewer;
       })
 
-  all_safe : AreAccepted e p → (n : ℕ) → AllSafe e p t n
-  all_safe accepted zero j l number f k is has = absurd (no_less j l)
-    where
-      no_less : (j : ℕ) → j < 0 → ⊥
-      no_less j l = omega (arith, l)
-  all_safe accepted (suc n) j l number f k is has =
-      function_safe number f k is (accepted number f k is has) j (λ i li. all_safe accepted n i (less i j n li l))
-    where
-      less : (i j n : ℕ) → i < j → j < suc n → i < n
-      less i j n a b = omega (arith, a, b)
+plus_one : (i j : ℕ) → suc i + j ≡ i + suc j
+plus_one i j = omega arith
 
-all_may : (types : List TypeTree) (ws : List Value) → AreOfTypes types ws → (length ws ≡ length types) × AllMayBe types ws
-all_may [] [] h = (refl, tt)
-all_may [] (w ∷ ws) h = absurd h
-all_may (t ∷ types) [] h = absurd h
-all_may (t ∷ types) (w ∷ ws) h = let (long, rest) = all_may types ws h.1 in (ap suc long, (is_may t w h.0, rest))
-
-pub accepted_calls_are_safe : AcceptedCallsAreSafe
-accepted_calls_are_safe e p accepted t duties number f k arguments names rest own call callers target n continues =
-    let (long, may) = all_may f.signature.parameters arguments call.types in
-    all_safe e p t accepted (suc n) n (omega arith) number f k call.function call.contract duties arguments names callers target call.passed rest own (long ∙ sym (call.contract).parameters) may call.begins call.thread call.of_sorts call.required call.typed call.sums continues
-
-pub accepted_threads_are_safe : AcceptedThreadsAreSafe
-accepted_threads_are_safe e p accepted t number f k arguments names own rest none call n =
-    let first : Duty = record { contract = k; names = names; rest = nothing; below = 0 } in
-    accepted_calls_are_safe e p accepted t (first ∷ []) number f k arguments names rest own call [] None n
-    (λ j l result q own2 of_type ensured typed sums. (first_done e 0 first [] result own2 (q, ensured, subst (λ z. IsSum q z own2) none sums), ended (left_after 0 (first ∷ [])) j own2))
+-- the symbols of parameters in order
+symbols_at : (i n j : ℕ) → j < n → slice_get (symbols_from i n) j ≡ Some (symbol (i + j))
+symbols_at i zero j l = absurd (none_below j l)
   where
-    ended : (ds : Duties) (j : ℕ) (own2 : Part) → Safe e p t ds j [] own2
-    ended ds zero own2 = tt
-    ended ds (suc j) own2 = tt
+    none_below : (j : ℕ) → j < 0 → ⊥
+    none_below j l = omega (arith, l)
+symbols_at i (suc n) zero l = ap (λ z. Some (symbol z)) (plus_zero i)
+symbols_at i (suc n) (suc j) l = symbols_at (suc i) n j (omega (arith, l)) ∙ ap (λ z. Some (symbol z)) (plus_one i j)
+
+pub symbol_is : (n j : ℕ) → j < n → slice_get (parameter_symbols n) j ≡ Some (symbol j)
+symbol_is n j l = symbols_at 0 n j l ∙ ap (λ z. Some (symbol z)) (zero_plus j)

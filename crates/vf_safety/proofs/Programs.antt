@@ -42,7 +42,8 @@ use Rattle.vf_safety.specs.Safe.{Duty, Duties, Within, DoneAt, DutiesChange, dut
 use Rattle.vf_safety.specs.Laws.{AreOfTypes, MayCall, before_main, IsAcceptedProgram, AcceptedProgramsAreSafe}
 use Rattle.vf_safety.proofs.Duties.{IsIn, first_within}
 use Rattle.vf_safety.proofs.Bodies.{nothing_left}
-use Rattle.vf_safety.proofs.Functions.{begins_mean, accepted_threads_are_safe}
+use Rattle.vf_safety.proofs.Functions.{begins_mean}
+use Rattle.vf_safety.proofs.AllSafe.{accepted_threads_are_safe}
 
 none_some : {A B : Type 0} {x : A} → None ≡ Some x → B
 none_some e = cc
@@ -525,7 +526,7 @@ opening_world e p a n = record {
   typed = nothing_typed e p;
   shaped = λ b g cells is. none_some (sym (finite.get-empty nat_cmp b) ∙ is);
   unshared = λ b shared. no_share (block_at (opening p).memory b) (finite.get-empty nat_cmp b) shared;
-  safe = λ none. accepted_threads_are_safe e p a.functions 0 p.main a.main a.contract [] (begun e p a).names nothing nothing refl (may_begin e p a) n;
+  safe = λ none. accepted_threads_are_safe e p a.functions a.claims 0 p.main a.main a.contract [] (begun e p a).names nothing nothing refl (may_begin e p a) n;
 }
 
 -- ---- what an accepted program keeps
@@ -600,8 +601,7 @@ module _ (e : Environment) (p : ProgramTree) (a : IsAcceptedProgram e p) (events
       let pr = (moved_at k event is).called call h in
       let d = pr.duty in
       let one : event.thread ≡ 0 = first_calls k event.thread h.frame h.callers (h.at).frames in
-      let by_one : call.thread ≡ 0 = h.thread ∙ one in
-      (
+      let by_one : call.thread ≡ 0 = h.thread ∙ one in (
         d.rest,
         record {
           function = pr.function;

@@ -1,4 +1,5 @@
 -- The example is accepted: a derivation by the rules.
+use Rattle.std.specs.Prelude.{IsTrue, false}
 use Rattle.std.proofs.Common.{◌≡◌, ◌≢◌, ℕ, zero, suc, pos, Bool, true, not, List, [], ◌∷◌, slice_get, Some, None, refl, sym, ap, subst, ◌∙◌, ◌⊎◌, inl, inr, arith}
 use Rattle.std.proofs.lemmas.Bool.{false≢true}
 use Rattle.vf_base.specs.declared.int_type.IntType.TheVariants as types
@@ -152,9 +153,13 @@ all_accepted zero f k is has =
     subst (λ z. IsAcceptedFunction box_environment box_program z k) f_is (subst (λ z. IsAcceptedFunction box_environment box_program box_main z) k_is accepted_main)
 all_accepted (suc n) f k is has = none_some is
 
+no_claim : IsTrue false → ⊥
+no_claim h = cc
+
 pub box_is_accepted : BoxIsAccepted
 box_is_accepted = record {
   functions = all_accepted;
+  claims = λ g type contract claimed of_type. absurd (no_claim claimed);
   main = box_main;
   is_main = refl;
   contract = box_contract;

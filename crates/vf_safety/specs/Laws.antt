@@ -17,6 +17,7 @@ use Rattle.vf_rules.specs.Types.{IsOfType, IsTypedPart}
 use Rattle.vf_rules.specs.States.{SymbolicState}
 use Rattle.vf_rules.specs.Consume.{Consume}
 use Rattle.vf_rules.specs.Accept.{all_of_it, call_store, HasContract, IsAcceptedFunction}
+use Rattle.vf_rules.specs.Claims.{AreClaimsKept}
 use Rattle.vf_safety.specs.Safe.{Duties, Safe, Continues}
 
 -- values are of the types of parameters, one by one
@@ -42,17 +43,17 @@ pub record MayCall (e : Environment) (p : ProgramTree) (t number : ℕ) (f : Fun
   pub typed : IsTypedPart e p own
   pub sums : IsSum passed rest own
 
--- in a program whose functions are accepted, a call of one is safe for n steps beside whatever a thread keeps, where what comes after the call is, for fewer steps, with every part that satisfies the postcondition
+-- in a program whose functions are accepted and keep their claims, a call of one is safe for n steps beside whatever a thread keeps, where what comes after the call is, for fewer steps, with every part that satisfies the postcondition
 abbrev pub AcceptedCallsAreSafe : Type 0
 AcceptedCallsAreSafe =
-    (e : Environment) (p : ProgramTree) → AreAccepted e p → (t : ℕ) (duties : Duties) (number : ℕ) (f : FunctionTree) (k : ContractTree) (arguments : List Value) (names : Valuation) (rest own : Part)
+    (e : Environment) (p : ProgramTree) → AreAccepted e p → AreClaimsKept e p → (t : ℕ) (duties : Duties) (number : ℕ) (f : FunctionTree) (k : ContractTree) (arguments : List Value) (names : Valuation) (rest own : Part)
     → MayCall e p t number f k arguments names rest own → (callers : Thread) (target : Option ℕ) (n : ℕ)
     → Continues e p t duties n callers target f.signature.result k names rest → Safe e p t duties n (entered number f arguments target ∷ callers) own
 
--- in a program whose functions are accepted, a thread whose first call is of one is safe for every number of steps, and its duty is the postcondition
+-- in a program whose functions are accepted and keep their claims, a thread whose first call is of one is safe for every number of steps, and its duty is the postcondition
 abbrev pub AcceptedThreadsAreSafe : Type 0
 AcceptedThreadsAreSafe =
-    (e : Environment) (p : ProgramTree) → AreAccepted e p → (t number : ℕ) (f : FunctionTree) (k : ContractTree) (arguments : List Value) (names : Valuation) (own rest : Part)
+    (e : Environment) (p : ProgramTree) → AreAccepted e p → AreClaimsKept e p → (t number : ℕ) (f : FunctionTree) (k : ContractTree) (arguments : List Value) (names : Valuation) (own rest : Part)
     → rest ≡ nothing → MayCall e p t number f k arguments names rest own → (n : ℕ)
     → Safe e p t (record { contract = k; names = names; rest = nothing; below = 0 } ∷ []) n (entered number f arguments None ∷ []) own
 
@@ -60,9 +61,10 @@ AcceptedThreadsAreSafe =
 abbrev pub before_main : SymbolicState
 before_main = record { locals = []; names = call_store []; chunks = []; path = [] }
 
--- A program is accepted: each of its functions that has a contract is; main has one and no parameters, and its precondition is consumed from nothing
+-- A program is accepted: each of its functions that has a contract is, and keeps the contracts of the types that it claims; main has one and no parameters, and its precondition is consumed from nothing
 pub record IsAcceptedProgram (e : Environment) (p : ProgramTree) : Type 0 where
   pub functions : AreAccepted e p
+  pub claims : AreClaimsKept e p
   pub main : FunctionTree
   pub is_main : slice_get p.functions p.main ≡ Some main
   pub contract : ContractTree

@@ -1,4 +1,4 @@
-use Rattle.vf_safety.proofs.Functions.{accepted_threads_are_safe}
+use Rattle.vf_safety.proofs.AllSafe.{accepted_threads_are_safe}
 use Rattle.vf_safety.proofs.laws.accepted_threads_are_safe.Goals as goal
 
 pub returns : goal.returns
