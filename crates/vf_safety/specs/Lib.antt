@@ -1,3 +1,4 @@
 pub mod Safe
 pub mod Laws
 pub mod Example
+pub mod Counting

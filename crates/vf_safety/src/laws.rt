@@ -1,5 +1,6 @@
 //! Laws of what is accepted. Each function does nothing; its contract is the law.
 
+ghost use Rattle.vf_safety.specs.Counting.{CountingIsAccepted};
 ghost use Rattle.vf_safety.specs.Example.{BoxIsAccepted};
 ghost use Rattle.vf_safety.specs.Laws.{AcceptedCallsAreSafe, AcceptedProgramsAreSafe, AcceptedThreadsAreSafe};
 
@@ -22,4 +23,9 @@ pub fn accepted_programs_are_safe()
 /// A program that allocates a struct, writes and reads its field and frees it is accepted.
 pub fn box_is_accepted()
     ensures { BoxIsAccepted }
+{}
+
+/// A program with a loop and a call through a pointer is accepted.
+pub fn counting_is_accepted()
+    ensures { CountingIsAccepted }
 {}

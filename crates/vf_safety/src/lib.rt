@@ -7,5 +7,6 @@
 mod laws;
 
 pub use laws::{
-    accepted_calls_are_safe, accepted_programs_are_safe, accepted_threads_are_safe, box_is_accepted,
+    accepted_calls_are_safe, accepted_programs_are_safe, accepted_threads_are_safe,
+    box_is_accepted, counting_is_accepted,
 };
