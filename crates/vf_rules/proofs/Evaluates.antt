@@ -1,27 +1,27 @@
 -- An expression that has a term gives the term's value.
-use Rattle.std.proofs.Common.{◌≡◌, ℕ, zero, suc, ℤ, pos, negsuc, neg_ℤ, Bool, true, false, cond, not, ◌&&◌, ◌||◌, List, [], ◌∷◌, map, slice_get, Option, Some, None, refl, sym, ap, ap₂, subst, ◌∙◌, ◌⊎◌, inl, inr, ⊎_elim}
-use Rattle.std.specs.Prelude.{IsTrue, int_le}
+use Rattle.std.proofs.Common.{◌≡◌, ℕ, zero, suc, ℤ, pos, negsuc, neg_ℤ, Bool, true, false, cond, not, ◌&&◌, ◌||◌, List, [], ◌∷◌, map, slice_get, Option, Some, None, refl, sym, ap, ap₂, subst, ◌∙◌, ◌⊎◌, ⊎_elim}
+use Rattle.std.specs.Prelude.{int_le}
 use Rattle.std.specs.Ordering.{int_eq}
-use Rattle.std.proofs.lemmas.Bool.{false≢true, cases_Bool, and_parts, and_from}
+use Rattle.std.proofs.lemmas.Bool.{false≢true, and_from}
 use Rattle.vf_base.specs.declared.place.Place.{Place}
 use Rattle.vf_base.specs.declared.int_type.IntType.{IntType}
 use Rattle.vf_tree.specs.Core.{ArithmeticOperator, Add, Subtract, Multiply, Divide, Remainder, ExpressionTree, Read, LessEqual, NotEqual}
 use Rattle.vf_tree.specs.Core as core
 use Rattle.vf_model.specs.declared.words.FaultKind.TheVariants as faults
-use Rattle.vf_model.specs.Integers.{least, greatest, in_range, arithmetic, bad_divisor, divides_badly}
+use Rattle.vf_model.specs.Integers.{least, greatest, in_range, arithmetic, bad_divisor}
 use Rattle.vf_model.specs.Values.{Value, number_of}
 use Rattle.vf_model.specs.Values as values
 use Rattle.vf_model.specs.Evaluation.{Evaluated, Gives, Fails, and_then, local_read, ranged, evaluate, evaluate_all}
 use Rattle.vf_model.specs.Evaluation as evaluation
 use Rattle.vf_meaning.specs.Ghost.{ConstructorTree, Sort, Integers, Truths, Pointers, Number, Truth, Null, Function, Negate, Arithmetic, Compare}
 use Rattle.vf_meaning.specs.Ghost as ghost
-use Rattle.vf_meaning.specs.Valuations.{Valuation, is_same}
+use Rattle.vf_meaning.specs.Valuations.{Valuation}
 use Rattle.vf_meaning.specs.GhostValues.{computed, compared}
 use Rattle.vf_meaning.specs.Assertions.{Environment}
 use Rattle.vf_meaning.specs.Sorts.{IsDatatypeOf, HasSort}
 use Rattle.vf_rules.specs.Terms.{Term}
-use Rattle.vf_rules.specs.States.{Fact, Holds, OfSort, value_in, Meets, LocalsMean, Entails}
-use Rattle.vf_rules.specs.Evaluate.{IsInRange, IsDivisor, MayApply, IsNumber, Evaluates, EvaluatesAll}
+use Rattle.vf_rules.specs.States.{Fact, value_in, Meets, LocalsMean}
+use Rattle.vf_rules.specs.Evaluate.{IsInRange, IsDivisor, MayApply, Evaluates, EvaluatesAll}
 
 none_some : {A B : Type 0} {x : A} → None ≡ Some x → B
 none_some e = cc

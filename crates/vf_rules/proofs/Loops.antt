@@ -1,9 +1,8 @@
 -- Coming to a loop's head keeps what a state stands for.
-use Rattle.std.proofs.Common.{◌≡◌, ◌≢◌, ℕ, zero, suc, Bool, true, false, cond, List, [], ◌∷◌, ◌++◌, map, length, slice_get, Option, Some, None, refl, sym, ap, ap₂, subst, subst₂, ◌∙◌, inl, inr, arith}
+use Rattle.std.proofs.Common.{◌≡◌, ◌≢◌, ℕ, zero, suc, Bool, true, false, cond, List, [], ◌∷◌, length, slice_get, Option, Some, None, refl, sym, ap, subst, subst₂, ◌∙◌, arith}
 use Rattle.std.specs.Prelude.{IsTrue}
-use Rattle.std.proofs.lemmas.Bool.{cases_Bool}
 use Rattle.vf_base.specs.declared.int_type.IntType.{IntType}
-use Rattle.vf_tree.specs.Core.{TypeTree, Void, Integer, PointerToVoid, PointerToInt, PointerToStruct, PointerToFunction, ProgramTree, LessEqual}
+use Rattle.vf_tree.specs.Core.{Void, Integer, PointerToVoid, PointerToInt, PointerToStruct, PointerToFunction, LessEqual}
 use Rattle.vf_model.specs.Values.{Value}
 use Rattle.vf_model.specs.Values as values
 use Rattle.vf_model.specs.Integers.{least, greatest}
@@ -17,14 +16,12 @@ use Rattle.vf_meaning.specs.Sorts.{HasSort}
 use Rattle.vf_meaning.specs.Parts.{Part}
 use Rattle.vf_meaning.proofs.Values.{agreed}
 use Rattle.vf_rules.specs.Terms.{Term, Store}
-use Rattle.vf_rules.specs.States.{Fact, Holds, OfSort, SymbolicChunk, SymbolicState, meaning, value_in, IsMet, Meets, ChunksMean, LocalsMean, StoreMeans, StandsFor, Entails}
-use Rattle.vf_rules.specs.Fresh.{symbol, IsFreshIn, UsesChunks, UsesFacts}
-use Rattle.vf_rules.specs.Types.{is_bool, facts_of_integer, facts_of_type, IsTypedPart}
-use Rattle.vf_rules.specs.Produce.{Produce}
-use Rattle.vf_rules.specs.Consume.{EntailsAll, Consume}
+use Rattle.vf_rules.specs.States.{Fact, Holds, OfSort, meaning, value_in, Meets, ChunksMean, LocalsMean, StoreMeans, StandsFor}
+use Rattle.vf_rules.specs.Fresh.{symbol}
+use Rattle.vf_rules.specs.Types.{is_bool, facts_of_integer}
+use Rattle.vf_rules.specs.Consume.{EntailsAll}
 use Rattle.vf_rules.specs.Laws.{IsAmong, StoreSorted}
-use Rattle.vf_rules.specs.PredicateLaws.{SomeStands}
-use Rattle.vf_rules.specs.Loops.{Known, OfLocal, OfGhost, facts_of_known, Changing, facts_of_changing, Loop, before_invariant, IsFreeOf, IsLoop, Comes, LocalsCome, Arrives, AreNamesSorted, Enters}
+use Rattle.vf_rules.specs.Loops.{Known, OfLocal, OfGhost, facts_of_known, Changing, facts_of_changing, Loop, before_invariant, IsFreeOf, Comes, LocalsCome, Arrives, AreNamesSorted}
 use Rattle.vf_rules.specs.LoopLaws.{EnteringKeeps}
 use Rattle.vf_rules.proofs.Terms.{fresh_store, other_symbol, own_symbol}
 use Rattle.vf_rules.proofs.Stands.{meets_fresh, chunks_fresh, meets_more}

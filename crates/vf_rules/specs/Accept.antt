@@ -1,11 +1,11 @@
 -- When the body of a function is accepted: a rule for each core step, and rules for what annotations do between them.
-use Rattle.std.specs.Prelude.{IsTrue, ◌≡◌, ◌⊎◌, ℕ, zero, suc, pos, ◌≤◌, ◌-◌, ◌≢◌, List, [], ◌∷◌, ◌++◌, map, replicate, length, drop, slice_get, slice_set, Option, Some, None}
+use Rattle.std.specs.Prelude.{IsTrue, ◌≡◌, ◌⊎◌, ℕ, zero, suc, pos, ◌≤◌, ◌-◌, ◌≢◌, List, [], ◌∷◌, ◌++◌, map, replicate, length, slice_get, slice_set, Option, Some, None}
 use Rattle.vf_base.specs.declared.place.Place.{Place}
 use Rattle.vf_base.specs.declared.int_type.IntType.TheVariants as types
-use Rattle.vf_tree.specs.Core.{Identity, Field, TypeTree, Void, Integer, ExpressionTree, Comparison, StepTree, Set, Load, Store, Allocate, Free, Call, CallPointer, Signature, If, Return, FunctionTree, ProgramTree, NotEqual, LessEqual}
+use Rattle.vf_tree.specs.Core.{Identity, Field, TypeTree, Void, Integer, ExpressionTree, Comparison, Set, Load, Store, Allocate, Free, Call, CallPointer, Signature, If, Return, FunctionTree, ProgramTree, NotEqual, LessEqual}
 use Rattle.vf_model.specs.Accesses.{field_count}
 use Rattle.vf_model.specs.State.{function_named}
-use Rattle.vf_model.specs.PreludeFunctions.{PreludeFunction, Abort, PutChar, PrintInt, prelude_named}
+use Rattle.vf_model.specs.PreludeFunctions.{Abort, PutChar, PrintInt, prelude_named}
 use Rattle.vf_meaning.specs.Fractions.{whole}
 use Rattle.vf_meaning.specs.Ghost.{Sort, Name, Pointers, Result, This, CurrentThread, Variable, Claims, Null, Not, Compare, Fraction}
 use Rattle.vf_meaning.specs.Ghost as ghost

@@ -2,7 +2,7 @@
 use Rattle.std.specs.Prelude.{◌≡◌, ℕ, IsTrue, List, [], ◌++◌, length, slice_get, Some}
 use Rattle.vf_tree.specs.Core.{Identity, FunctionTree, ProgramTree}
 use Rattle.vf_model.specs.State.{function_named}
-use Rattle.vf_meaning.specs.Ghost.{Result, This, Function}
+use Rattle.vf_meaning.specs.Ghost.{Result, Function}
 use Rattle.vf_meaning.specs.Assertions.{ContractTree, Environment}
 use Rattle.vf_rules.specs.Terms.{stored}
 use Rattle.vf_rules.specs.Terms as terms
@@ -11,7 +11,7 @@ use Rattle.vf_rules.specs.Fresh.{symbol, IsNew}
 use Rattle.vf_rules.specs.Produce.{Produce}
 use Rattle.vf_rules.specs.Consume.{Consume}
 use Rattle.vf_rules.specs.Laws.{Outcome, IsAmong}
-use Rattle.vf_rules.specs.Predicates.{AreInhabited, AreSorted}
+use Rattle.vf_rules.specs.Predicates.{AreSorted}
 use Rattle.vf_rules.specs.Accept.{all_of_it, call_store, pointer_store, parameter_symbols, facts_of_types, facts_of_sorts, facts_of_result, HasContract, AreFixed, KeepsFixed}
 
 -- the state in which a claim is checked: the parameters have new symbols of their types and sorts, and nothing else is there

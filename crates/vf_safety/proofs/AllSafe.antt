@@ -1,10 +1,9 @@
 -- Each function of an accepted program is safe for every number of steps.
-use Rattle.std.proofs.Common.{◌≡◌, ℕ, zero, suc, ◌<◌, List, [], ◌∷◌, length, slice_get, Option, Some, None, refl, sym, ap, subst, ◌∙◌, arith}
-use Rattle.vf_tree.specs.Core.{TypeTree, FunctionTree, ProgramTree}
+use Rattle.std.proofs.Common.{◌≡◌, ℕ, zero, suc, ◌<◌, List, [], ◌∷◌, length, None, refl, sym, ap, subst, ◌∙◌, arith}
+use Rattle.vf_tree.specs.Core.{TypeTree, ProgramTree}
 use Rattle.vf_model.specs.Values.{Value}
-use Rattle.vf_meaning.specs.Assertions.{ContractTree, Environment}
+use Rattle.vf_meaning.specs.Assertions.{Environment}
 use Rattle.vf_meaning.specs.Parts.{Part, nothing, IsSum}
-use Rattle.vf_rules.specs.Accept.{HasContract}
 use Rattle.vf_rules.specs.Claims.{AreClaimsKept}
 use Rattle.vf_safety.specs.Safe.{Duty, Duties, Safe, left_after}
 use Rattle.vf_safety.specs.Laws.{AreOfTypes, AreAccepted, AcceptedCallsAreSafe, AcceptedThreadsAreSafe}

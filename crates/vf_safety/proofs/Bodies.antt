@@ -60,7 +60,7 @@ use Rattle.vf_model.specs.State.{Aborted, after_output}
 use Rattle.vf_model.specs.Values.{number_of}
 use Rattle.vf_model.specs.Calls.{byte_of}
 use Rattle.vf_safety.proofs.Prelude.{prelude_act, one_value, ended_went, output_went, byte_in_range, result_then_step, integer_no_void}
-use Rattle.vf_rules.specs.Loops.{Loop, IsLoop, Enters}
+use Rattle.vf_rules.specs.Loops.{Loop, IsLoop}
 use Rattle.vf_rules.proofs.Loops.{entering_keeps, store_sorted}
 use Rattle.vf_safety.proofs.Leaks.{leaving_safe}
 use Rattle.vf_rules.specs.Accept as accept

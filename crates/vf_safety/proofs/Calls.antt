@@ -1,15 +1,15 @@
 -- A call through a pointer as the machine does it.
-use Rattle.std.proofs.Common.{◌≡◌, ◌≢◌, ℕ, zero, suc, ◌<◌, Bool, true, false, cond, List, [], ◌∷◌, length, slice_get, Option, Some, None, refl, sym, ap, ap₂, subst, ◌∙◌, arith}
+use Rattle.std.proofs.Common.{◌≡◌, ℕ, Bool, true, false, cond, List, [], ◌∷◌, length, slice_get, Option, Some, None, refl, sym, ap, subst, ◌∙◌}
 use Rattle.std.specs.Prelude.{IsTrue}
 use Rattle.vf_base.specs.declared.place.Place.{Place}
-use Rattle.vf_tree.specs.Core.{Identity, Signature, ExpressionTree, CallPointer, FunctionTree, ProgramTree}
+use Rattle.vf_tree.specs.Core.{Identity, Signature, ExpressionTree, CallPointer, ProgramTree}
 use Rattle.vf_model.specs.declared.words.FaultKind.TheVariants as faults
 use Rattle.vf_model.specs.Values.{Value, same_signature}
 use Rattle.vf_model.specs.Values as values
-use Rattle.vf_model.specs.PreludeFunctions.{PreludeFunction, prelude_named}
-use Rattle.vf_model.specs.State.{Frame, Thread, State, entered, at_step, with_frames, function_named}
+use Rattle.vf_model.specs.PreludeFunctions.{prelude_named}
+use Rattle.vf_model.specs.State.{Frame, Thread, State, entered, at_step, with_frames}
 use Rattle.vf_model.specs.Evaluation.{Gives, evaluate, evaluate_all}
-use Rattle.vf_model.specs.Acts.{Act, Goes, Faults, given}
+use Rattle.vf_model.specs.Acts.{Goes, Faults, given}
 use Rattle.vf_model.specs.Calls.{calls_pointer, calls_named, calls_number, calls_body, has_signature, with_signature, numbered, body_has_signature}
 use Rattle.vf_model.specs.Steps.{act_of, all_values}
 use Rattle.vf_meaning.specs.Ghost.{FixpointTree}
@@ -23,7 +23,7 @@ use Rattle.vf_meaning.proofs.Parts.{sums_turn, nothing_is_neutral}
 use Rattle.vf_rules.specs.States.{meaning}
 use Rattle.vf_rules.specs.Types.{IsTypedPart}
 use Rattle.vf_rules.specs.Accept.{HasSignature}
-use Rattle.vf_safety.specs.Safe.{Duty, Duties, Within, DutiesChange, duty_added, Promised, event_of, IsShaped, Went}
+use Rattle.vf_safety.specs.Safe.{Duty, Duties, Within, duty_added, Promised, event_of, IsShaped, Went}
 use Rattle.vf_safety.proofs.Steps.{turn_of, set_own, set_other, set_length}
 
 -- fixpoints change no claims

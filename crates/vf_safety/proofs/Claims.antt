@@ -1,27 +1,26 @@
 -- A function is safe under the contract of a type that it claims.
-use Rattle.std.proofs.Common.{◌≡◌, ℕ, zero, suc, ◌<◌, pos, List, [], ◌∷◌, ◌++◌, length, map, slice_get, Option, Some, None, refl, sym, ap, subst, ◌∙◌, arith}
-use Rattle.vf_tree.specs.Core.{Identity, TypeTree, FunctionTree, ProgramTree}
+use Rattle.std.proofs.Common.{◌≡◌, ℕ, zero, suc, ◌<◌, List, [], ◌∷◌, length, slice_get, Option, Some, None, refl, sym, ap, subst, ◌∙◌, arith}
+use Rattle.vf_tree.specs.Core.{Identity, FunctionTree, ProgramTree}
 use Rattle.vf_model.specs.Values.{Value}
-use Rattle.vf_model.specs.Values as values
-use Rattle.vf_model.specs.State.{Thread, function_named}
+use Rattle.vf_model.specs.State.{Thread}
 use Rattle.vf_meaning.specs.Fractions.{whole}
-use Rattle.vf_meaning.specs.Ghost.{Sort, Name, Numbered, Result, This, CurrentThread, Variable, Function}
+use Rattle.vf_meaning.specs.Ghost.{Name, Numbered, Result, This, CurrentThread, Variable, Function}
 use Rattle.vf_meaning.specs.Valuations.{Valuation, bound}
 use Rattle.vf_meaning.specs.Assertions.{ContractTree, Environment}
 use Rattle.vf_meaning.specs.Sorts.{AreOfSorts, HasSort}
 use Rattle.vf_meaning.specs.Parts.{Part, nothing, IsSum}
-use Rattle.vf_meaning.specs.Kept.{IsFixed, Ensures, with_result}
+use Rattle.vf_meaning.specs.Kept.{Ensures, with_result}
 use Rattle.vf_rules.specs.Terms.{Term, stored}
 use Rattle.vf_rules.specs.Terms as terms
-use Rattle.vf_rules.specs.States.{Fact, SymbolicState, value_in, Meets, ChunksMean, StoreMeans, StandsFor, assuming_all}
+use Rattle.vf_rules.specs.States.{SymbolicState, value_in, ChunksMean, StoreMeans, StandsFor, assuming_all}
 use Rattle.vf_rules.specs.Fresh.{symbol, IsNew}
 use Rattle.vf_rules.specs.Types.{IsTypedPart}
 use Rattle.vf_rules.specs.Produce.{Produce}
 use Rattle.vf_rules.specs.Consume.{Consume}
-use Rattle.vf_rules.specs.Laws.{IsAmong, StoreSorted}
-use Rattle.vf_rules.specs.Predicates.{store_of, AreSorted}
+use Rattle.vf_rules.specs.Laws.{IsAmong}
+use Rattle.vf_rules.specs.Predicates.{store_of}
 use Rattle.vf_rules.specs.Accept.{all_of_it, call_store, pointer_store, parameter_symbols, facts_of_types, facts_of_sorts, facts_of_result, HasContract, AreFixed, KeepsFixed}
-use Rattle.vf_rules.specs.Claims.{before_claim, Refines, KeepsClaim, AreClaimsKept}
+use Rattle.vf_rules.specs.Claims.{before_claim, Refines, AreClaimsKept}
 use Rattle.vf_rules.proofs.Terms.{fresh_store, own_symbol, stored_own, stored_other, stored_means}
 use Rattle.vf_rules.proofs.Stands.{meets_more, stands_fresh, assuming_all_stands}
 use Rattle.vf_rules.proofs.Produces.{produced}

@@ -1,8 +1,8 @@
 -- The example with a loop and a call through a pointer is accepted.
 use Rattle.std.specs.Prelude.{IsTrue, int_le, int_lt, ◌+ℤ◌, ◌&&◌}
-use Rattle.std.proofs.Common.{◌≡◌, ◌≢◌, ℕ, zero, suc, ℤ, pos, Bool, true, false, not, cond, List, [], ◌∷◌, ◌++◌, slice_get, Some, None, refl, sym, ap, subst, ◌∙◌, ◌⊎◌, inl, inr, arith}
+use Rattle.std.proofs.Common.{◌≡◌, ◌≢◌, ℕ, zero, suc, ℤ, pos, Bool, true, false, List, [], ◌∷◌, ◌++◌, slice_get, Some, None, refl, sym, ap, subst, ◌∙◌, ◌⊎◌, inl, inr, arith}
 use Rattle.std.proofs.lemmas.Int.{ints}
-use Rattle.std.proofs.lemmas.Bool.{cases_Bool, false≢true}
+use Rattle.std.proofs.lemmas.Bool.{false≢true}
 use Rattle.vf_base.specs.declared.int_type.IntType.TheVariants as types
 use Rattle.vf_tree.specs.Core.{Identity, TypeTree, Void, Integer, Add, Less, Equal, LessEqual, FunctionTree}
 use Rattle.vf_tree.specs.Core as core
@@ -10,24 +10,22 @@ use Rattle.vf_model.specs.Values.{Value, number_of, same_identity}
 use Rattle.vf_model.specs.Values as values
 use Rattle.vf_model.specs.Integers.{least, greatest}
 use Rattle.vf_model.proofs.Equality.{identities_told}
-use Rattle.vf_meaning.specs.Ghost.{Sort, Integers, Pointers, Name, Numbered, Result, This, CurrentThread, Variable, Function, Number, Truth, Compare, Arithmetic, Claims, Not}
-use Rattle.vf_meaning.specs.Kept.{IsFixed}
+use Rattle.vf_meaning.specs.Ghost.{Sort, Integers, Name, Numbered, Result, This, CurrentThread, Function, Number, Truth, Compare, Arithmetic, Not}
 use Rattle.vf_meaning.specs.Valuations.{Valuation}
 use Rattle.vf_meaning.specs.Names.{Uses}
 use Rattle.vf_meaning.specs.Sorts.{HasSort}
 use Rattle.vf_meaning.specs.Assertions.{ContractTree}
 use Rattle.vf_rules.specs.Terms.{Term, stored}
 use Rattle.vf_rules.specs.Terms as terms
-use Rattle.vf_rules.specs.States.{Fact, Holds, OfSort, SymbolicState, value_in, Meets, Entails, assuming, assuming_all}
-use Rattle.vf_rules.specs.Fresh.{symbol, IsFresh, IsFreshIn, IsNew, UsesFacts}
+use Rattle.vf_rules.specs.States.{Fact, Holds, OfSort, SymbolicState, Meets, Entails, assuming, assuming_all}
+use Rattle.vf_rules.specs.Fresh.{symbol, IsFreshIn, IsNew, UsesFacts}
 use Rattle.vf_rules.specs.Types.{facts_of_type}
 use Rattle.vf_rules.specs.Take.{same}
 use Rattle.vf_rules.specs.Consume.{EntailsAll, Consume}
 use Rattle.vf_rules.specs.Produce.{Produce}
-use Rattle.vf_rules.specs.Laws.{Outcome, IsAmong}
+use Rattle.vf_rules.specs.Laws.{IsAmong}
 use Rattle.vf_rules.specs.Predicates.{store_of, AreInhabited}
-use Rattle.vf_rules.specs.Evaluate.{Evaluates}
-use Rattle.vf_rules.specs.Loops.{Known, OfLocal, Changing, facts_of_changing, facts_of_known, LocalsCome, Loop, before_invariant, IsLoop, Comes, Arrives, Enters}
+use Rattle.vf_rules.specs.Loops.{OfLocal, Changing, facts_of_known, LocalsCome, Loop, IsLoop, Comes, Enters}
 use Rattle.vf_rules.specs.Accept.{all_of_it, call_store, pointer_store, with_local, receiving, beginning, HasContract, HasSignature, KeepsFixed, AreFixed, Accepts, do_set, do_if, do_call_pointer, do_return, may_enter, may_repeat, IsAcceptedFunction}
 use Rattle.vf_rules.specs.Claims.{before_claim, Refines, KeepsClaim}
 use Rattle.vf_rules.proofs.Terms.{stored_own}

@@ -8,9 +8,8 @@ use Rattle.vf_meaning.specs.Ghost.{Sort, Numbered, Result, This, CurrentThread, 
 use Rattle.vf_meaning.specs.Valuations.{Valuation}
 use Rattle.vf_meaning.specs.Assertions.{ContractTree, Environment}
 use Rattle.vf_meaning.specs.Sorts.{HasSort, AreOfSorts}
-use Rattle.vf_meaning.specs.Parts.{Part, nothing, ◌⊕◌, IsSum}
-use Rattle.vf_meaning.specs.Kept.{Ensures}
-use Rattle.vf_meaning.proofs.Parts.{sums_turn, nothing_is_neutral, nothing-⊕}
+use Rattle.vf_meaning.specs.Parts.{Part, nothing, IsSum}
+use Rattle.vf_meaning.proofs.Parts.{sums_turn, nothing_is_neutral}
 use Rattle.vf_rules.specs.Terms.{Term}
 use Rattle.vf_rules.specs.States.{value_in, Meets, LocalsMean, StoreMeans, StandsFor}
 use Rattle.vf_rules.specs.Fresh.{symbol}
@@ -21,11 +20,8 @@ use Rattle.vf_rules.specs.Accept.{all_of_it, facts_of_types, facts_of_sorts, cal
 use Rattle.vf_rules.proofs.Terms.{stored_means}
 use Rattle.vf_rules.proofs.Stands.{meets_more}
 use Rattle.vf_rules.proofs.Produces.{produced, type_met}
-use Rattle.vf_safety.specs.Safe.{Duty, Safe, Duties, left_after}
-use Rattle.vf_safety.proofs.Duties.{first_done}
-use Rattle.vf_safety.specs.Laws.{AreOfTypes, AreAccepted, AcceptedCallsAreSafe, AcceptedThreadsAreSafe}
 use Rattle.vf_safety.proofs.Steps.{typed_of_left}
-use Rattle.vf_safety.proofs.Typing.{MayBe, is_may, AllMayBe}
+use Rattle.vf_safety.proofs.Typing.{MayBe, AllMayBe}
 use Rattle.vf_safety.proofs.Bodies.{FunctionSafe, AllSafe, body_safe, positive_whole}
 
 some_same : {A : Type 0} {x y : A} → Some x ≡ Some y → x ≡ y

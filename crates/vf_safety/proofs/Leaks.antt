@@ -1,18 +1,16 @@
 -- What a thread gives up between two steps is the others' from the next step on.
-use Rattle.std.proofs.Common.{◌≡◌, ℕ, zero, suc, Bool, true, false, List, [], ◌∷◌, refl, sym, ap, subst, ◌∙◌, inl, inr}
+use Rattle.std.proofs.Common.{◌≡◌, ℕ, zero, suc, Bool, true, false, [], ◌∷◌, refl, ap, ◌∙◌, inl, inr}
 use Rattle.std.specs.Bool.{MatchBool}
 use Rattle.vf_tree.specs.Core.{ProgramTree}
 use Rattle.vf_model.specs.Memory.{Memory}
 use Rattle.vf_model.specs.State.{Thread, State}
-use Rattle.vf_model.specs.Acts.{Touch}
 use Rattle.vf_meaning.specs.Fractions.{whole, nought, sum, IsPositive}
 use Rattle.vf_meaning.specs.Assertions.{Environment}
 use Rattle.vf_meaning.specs.Parts.{Location, Content, Part, IsSum}
 use Rattle.vf_meaning.specs.Fits.{Fits}
-use Rattle.vf_meaning.specs.ShareOuts.{OwnsFor}
 use Rattle.vf_meaning.proofs.FitSteps.{sum_left}
 use Rattle.vf_meaning.proofs.Parts.{sums_turn, in_left, in_right, sum_at, nought_or_positive, not_nought, whole_is_alone}
-use Rattle.vf_safety.specs.Safe.{Duties, Within, Went, Secure, Safe}
+use Rattle.vf_safety.specs.Safe.{Duties, Went, Safe}
 use Rattle.vf_safety.proofs.Steps.{apart}
 
 -- a part whose whole of a location is in what is not given up has the whole of it

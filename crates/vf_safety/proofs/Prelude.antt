@@ -1,17 +1,16 @@
 -- Calls of the prelude's functions that touch no memory.
-use Rattle.std.proofs.Common.{◌≡◌, ◌≢◌, ℕ, zero, suc, ◌≤◌, ℤ, pos, negsuc, List, [], ◌∷◌, length, slice_get, slice_set, Option, Some, None, refl, sym, ap, subst, ◌∙◌, inl, inr, arith}
-use Rattle.std.specs.Prelude.{◌≤ℤ◌}
+use Rattle.std.proofs.Common.{◌≡◌, ℕ, ◌≤◌, ℤ, pos, negsuc, List, [], ◌∷◌, length, slice_get, Option, Some, None, refl, ap, ◌∙◌, arith}
 use Rattle.std.proofs.lemmas.Int.{ints}
 use Rattle.vf_base.specs.declared.place.Place.{Place}
 use Rattle.vf_base.specs.declared.int_type.IntType.TheVariants as types
-use Rattle.vf_tree.specs.Core.{Identity, TypeTree, Void, Integer, ExpressionTree, Call, ProgramTree}
+use Rattle.vf_tree.specs.Core.{Identity, Void, Integer, ExpressionTree, Call, ProgramTree}
 use Rattle.vf_model.specs.Values.{Value}
 use Rattle.vf_model.specs.Values as values
 use Rattle.vf_model.specs.Integers.{InRange}
 use Rattle.vf_model.specs.State.{Frame, Thread, State, End, Turn, at_step, with_frames, after_output, ended}
 use Rattle.vf_model.specs.State as state
-use Rattle.vf_model.specs.Evaluation.{Gives, evaluate, evaluate_all, Evaluated}
-use Rattle.vf_model.specs.Acts.{Act, given}
+use Rattle.vf_model.specs.Evaluation.{Gives, evaluate, evaluate_all}
+use Rattle.vf_model.specs.Acts.{given}
 use Rattle.vf_model.specs.PreludeFunctions.{PreludeFunction, prelude_named}
 use Rattle.vf_model.specs.Calls.{byte_of, calls_named, calls_prelude}
 use Rattle.vf_model.specs.Steps.{act_of}
@@ -21,7 +20,7 @@ use Rattle.vf_meaning.specs.Fits.{Fits}
 use Rattle.vf_meaning.specs.Kept.{Returns, Promise, CallsPointer}
 use Rattle.vf_meaning.proofs.Parts.{sums_turn, nothing_is_neutral}
 use Rattle.vf_rules.specs.Types.{IsTypedPart, IsOfType}
-use Rattle.vf_safety.specs.Safe.{Duties, Within, DutiesChange, duties_same, Promised, event_of, IsShaped, Went}
+use Rattle.vf_safety.specs.Safe.{Duties, Within, duties_same, event_of, IsShaped, Went}
 use Rattle.vf_safety.proofs.Steps.{turn_of, set_own, set_other, set_length}
 
 -- what a call of a prelude function does

@@ -23,7 +23,7 @@ use Rattle.vf_meaning.specs.Ghost.{Sort, Numbered, CurrentThread, Variable}
 use Rattle.vf_meaning.specs.Valuations.{Valuation}
 use Rattle.vf_meaning.specs.Assertions.{Environment}
 use Rattle.vf_meaning.specs.Sorts.{AreOfSorts}
-use Rattle.vf_meaning.specs.Parts.{Location, Part, nothing, ◌⊕◌, IsSum}
+use Rattle.vf_meaning.specs.Parts.{Location, Part, nothing, IsSum}
 use Rattle.vf_meaning.specs.Fits.{Fits}
 use Rattle.vf_meaning.specs.Satisfaction.{Satisfies}
 use Rattle.vf_meaning.specs.ShareOuts.{ShareOut, SumsTo, Ended, IsHandleOf, location_in, OwnsFor, IsShareOut}

@@ -15,10 +15,10 @@ use Rattle.vf_meaning.specs.Assertions.{Environment}
 use Rattle.vf_meaning.specs.Parts.{Location, Content, Part, nothing, single, IsSum}
 use Rattle.vf_meaning.specs.Fits.{Fits}
 use Rattle.vf_meaning.specs.ShareOuts.{location_in, OwnsFor}
-use Rattle.vf_meaning.specs.Kept.{IsAt, Returns, Promise, CallsPointer, depth}
+use Rattle.vf_meaning.specs.Kept.{IsAt, Returns, Promise, CallsPointer}
 use Rattle.vf_meaning.proofs.Parts.{sums_turn, sums_regroup, nothing_is_neutral, in_left, in_right, in_either, single_only}
 use Rattle.vf_rules.specs.Types.{IsTypedContent, IsTypedPart}
-use Rattle.vf_safety.specs.Safe.{Duties, Within, DutiesChange, duties_same, Promised, event_of, StartsNone, IsShared, IsShaped, Went, Secure}
+use Rattle.vf_safety.specs.Safe.{Duties, Within, duties_same, event_of, StartsNone, IsShared, IsShaped, Went, Secure}
 
 some_same : {A : Type 0} {x y : A} → Some x ≡ Some y → x ≡ y
 some_same e = cc

@@ -1,6 +1,5 @@
 -- A program with a loop and a call through a pointer, with the contracts of its functions and of the function type.
-use Rattle.std.specs.Prelude.{ℕ, pos, true, false, cond, ◌&&◌, nat_eq, List, [], ◌∷◌, Some, None, codes}
-use Rattle.vf_base.specs.declared.place.Place.{Place}
+use Rattle.std.specs.Prelude.{pos, true, cond, ◌&&◌, nat_eq, List, [], ◌∷◌, Some, None, codes}
 use Rattle.vf_base.specs.declared.int_type.IntType.TheVariants as types
 use Rattle.vf_tree.specs.Core.{Identity, Integer, PointerToFunction, Add, Less, Equal, LessEqual, Signature, StepTree, Set, If, CallPointer, Return, FunctionTree, ProgramTree}
 use Rattle.vf_tree.specs.Core as core
