@@ -11,4 +11,5 @@ pub mod Consumes
 pub mod Told
 pub mod Opening
 pub mod Loops
+pub mod Cases
 pub mod Evaluates

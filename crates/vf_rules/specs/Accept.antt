@@ -21,6 +21,7 @@ use Rattle.vf_rules.specs.Take.{same, Takes, Removes, Changes}
 use Rattle.vf_rules.specs.Consume.{EntailsAll, Consume}
 use Rattle.vf_rules.specs.Laws.{Outcome, IsAmong}
 use Rattle.vf_rules.specs.Predicates.{store_of, AreInhabited, AreSorted, Opens, Closes}
+use Rattle.vf_rules.specs.Cases.{HoldsOfNothing}
 use Rattle.vf_rules.specs.Loops.{Loop, IsLoop, AreNamesSorted, Enters}
 use Rattle.vf_rules.specs.Evaluate.{Evaluates, EvaluatesAll, IsOfC}
 
@@ -179,6 +180,8 @@ pub data Accepts (e : Environment) (p : ProgramTree) (f : FunctionTree) (k : Con
   may_close : {now soon : List Loop} {n : ℕ} {st : SymbolicState} (outs : List Outcome) → Closes e p st outs → ((s : terms.Store) (su : SymbolicState) → IsAmong outs s su → Accepts e p f k now soon n su) → Accepts e p f k now soon n st
   may_split : {now soon : List Loop} {n : ℕ} {st : SymbolicState} (t : Term) → Accepts e p f k now soon n (assuming st (Holds t)) → Accepts e p f k now soon n (assuming st (Holds (Not t))) → Accepts e p f k now soon n st
   may_leak : {now soon : List Loop} {n : ℕ} {st : SymbolicState} (a : Assertion) (sorts : List Sort) (store : terms.Store) (outs : List Outcome) → AreNamesSorted e st.path sorts store → Consume e p sorts all_of_it a store st (IsAmong outs)
+      → ((s : terms.Store) (su : SymbolicState) → IsAmong outs s su → Accepts e p f k now soon n su) → Accepts e p f k now soon n st
+  may_know : {now soon : List Loop} {n : ℕ} {st : SymbolicState} (a : Assertion) (sorts : List Sort) (store : terms.Store) (outs : List Outcome) → HoldsOfNothing e st.path sorts a store → Produce e p sorts all_of_it a store st (IsAmong outs)
       → ((s : terms.Store) (su : SymbolicState) → IsAmong outs s su → Accepts e p f k now soon n su) → Accepts e p f k now soon n st
   may_enter : {now soon : List Loop} {n : ℕ} {st : SymbolicState} (loop : Loop) → loop.node ≡ n → IsLoop e p loop → Enters e p loop st
       → ((s : terms.Store) (su : SymbolicState) → IsAmong loop.outs s su → Accepts e p f k now (loop ∷ soon) n su) → Accepts e p f k now soon n st

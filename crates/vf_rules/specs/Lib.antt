@@ -10,6 +10,7 @@ pub mod Predicates
 pub mod PredicateLaws
 pub mod Loops
 pub mod LoopLaws
+pub mod Cases
 pub mod Evaluate
 pub mod Accept
 pub mod Claims

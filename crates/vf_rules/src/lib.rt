@@ -9,5 +9,5 @@ mod loop_laws;
 mod predicate_laws;
 
 pub use laws::{changes_keep, consuming_takes, joining_keeps, producing_adds};
-pub use loop_laws::entering_keeps;
+pub use loop_laws::{empty_cases_hold, entering_keeps};
 pub use predicate_laws::{closing_keeps, opening_keeps};

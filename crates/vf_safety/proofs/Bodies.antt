@@ -43,7 +43,7 @@ use Rattle.vf_rules.specs.Consume.{EntailsAll, Consume}
 use Rattle.vf_rules.specs.Laws.{Outcome, IsAmong, Grows, StoreSorted}
 use Rattle.vf_rules.specs.Predicates.{store_of, AreSorted}
 use Rattle.vf_rules.specs.Evaluate.{Evaluates, EvaluatesAll, IsOfC}
-use Rattle.vf_rules.specs.Accept.{all_of_it, receiving, cell_chunk, new_chunks, TakesFields, facts_of_types, facts_of_result, call_store, HasContract, AreFixed, KeepsFixed, Accepts, do_set, do_if, do_load, do_store, do_allocate, do_free_null, do_free, do_call, do_return, do_leave, may_drop, may_change, may_open, may_close, IsOneOf, may_enter, may_repeat, may_split, may_leak, do_abort, do_put_char, do_print_int, do_call_pointer, pointer_store, HasSignature}
+use Rattle.vf_rules.specs.Accept.{all_of_it, receiving, cell_chunk, new_chunks, TakesFields, facts_of_types, facts_of_result, call_store, HasContract, AreFixed, KeepsFixed, Accepts, do_set, do_if, do_load, do_store, do_allocate, do_free_null, do_free, do_call, do_return, do_leave, may_drop, may_change, may_open, may_close, IsOneOf, may_enter, may_repeat, may_know, may_split, may_leak, do_abort, do_put_char, do_print_int, do_call_pointer, pointer_store, HasSignature}
 use Rattle.vf_rules.specs.Predicates.{AreInhabited}
 use Rattle.vf_meaning.specs.Valuations.{in_row, count}
 use Rattle.vf_meaning.specs.Satisfaction.{BeginsWith}
@@ -73,7 +73,7 @@ use Rattle.vf_rules.proofs.Evaluates.{evaluates, evaluates_all}
 use Rattle.vf_rules.proofs.Opening.{opening_keeps, closing_keeps, completed, completed_means, completed_sorted}
 use Rattle.vf_safety.specs.Safe.{Duties, Within, left_after, DoneAt, DutiesChange, event_of, StartsNone, IsShaped, Went, Safe, returned, IsResult, Continues}
 use Rattle.vf_safety.proofs.Duties.{one_more_call, left_within, left_changes, none_left, none_done}
-use Rattle.vf_safety.proofs.Steps.{Here, turn_of, apart, together, secure, not_left, not_called, went_local, went_over, local_secure, reading_secure, writing_secure, same_place, typed_sum, typed_single, typed_of_left, typed_of_right, set_own, set_other, set_length}
+use Rattle.vf_safety.proofs.Steps.{Here, turn_of, apart, together, secure, not_left, not_called, went_local, went_over, local_secure, reading_secure, writing_secure, same_place, typed_sum, typed_single, typed_of_left, typed_of_right, nothing_typed, set_own, set_other, set_length}
 use Rattle.vf_safety.proofs.Cells.{field_there, the_cell, load_act, store_act, touched, store_unshared, whole_of, written_shaped}
 use Rattle.vf_safety.proofs.Allocations.{new_struct_means, takes_fields, granted_free, struct_shaped, struct_unshared, struct_added, struct_there, free_act, free_null_act, removed_shaped, removed_unshared, freed_owned}
 use Rattle.vf_safety.proofs.Typing.{may_is, type_back, AllMayBe, types_back, all_entailed, locals_set, bound_stored, result_sorted, compares_terms}
@@ -1080,3 +1080,8 @@ module _ (e : Environment) (p : ProgramTree) (t : ℕ) (duty : Duties) (f : Func
   body_safe {now} {soon} {n} {st} (do_call_pointer target a signature operands place next type contract u ts outs is called of_type of_thread signed inhabited ep claims to ev long types sorted consume go) (suc m) h i frame callers own r =
       call_pointer_safe n st m frame callers own target a signature operands place next type contract u ts outs r is called of_type of_thread signed inhabited ep claims to ev long types sorted consume
       (λ s su among j l fr own2 k0. body_safe (go s su among) j (heads_below soon (suc j) (suc m) (omega (arith, l)) i) (heads_below soon j (suc m) (omega (arith, l)) i) fr callers own2 k0)
+  body_safe {now} {soon} {n} {st} (may_know a sorts store outs of_nothing produce go) (suc m) h i frame callers own r =
+      let v = r.symbols in
+      let known = of_nothing.by v (r.stands).path in
+      let o = produced e p sorts all_of_it whole (known.3).0 frame.locals r.names a store st (IsAmong outs) produce v known.0 nothing r.part r.part r.stands known.1 known.2 refl positive_whole (known.3).1 (nothing_typed e p) (nothing_is_neutral r.part) in
+      body_safe (go o.store o.state o.holds) (suc m) h i frame callers own (restated n st o.state (suc m) frame callers own r o.under o.stands)

@@ -28,7 +28,8 @@ use Rattle.vf_meaning.specs.Fits.{Fits}
 use Rattle.vf_meaning.specs.Satisfaction.{Satisfies}
 use Rattle.vf_meaning.specs.ShareOuts.{ShareOut, SumsTo, Ended, IsHandleOf, location_in, OwnsFor, IsShareOut}
 use Rattle.vf_meaning.specs.Kept.{before, depth_in, depth, IsAt, Returns, Promise, CallsPointer, ReturnsFrom, StartsWith, plain, joinable, Ensures, IsKept, IsSafe, Kept}
-use Rattle.vf_meaning.proofs.Parts.{sums_turn, nothing-⊕, nothing_is_neutral, nothing_fits_empty, not_nought}
+use Rattle.vf_meaning.proofs.Parts.{sums_turn, nothing-⊕, nothing_is_neutral, nothing_fits_empty}
+use Rattle.vf_safety.proofs.Steps.{nothing_typed}
 use Rattle.vf_meaning.proofs.ShareOuts.{share_outs_exclude_races}
 use Rattle.vf_rules.specs.States.{ChunksMean, StandsFor}
 use Rattle.vf_rules.specs.Types.{IsTypedPart}
@@ -486,10 +487,6 @@ begun e p a =
       of_sorts = completed_sorted e c.under (a.contract).sorts (a.has).inhabited c.store c.sorted;
       required = subst (Satisfies e whole (a.contract).requires_this names) off_is (c.depth, c.satisfies names means);
     }
-
-nothing_typed : (e : Environment) (p : ProgramTree) → IsTypedPart e p nothing
-unfolding nothing
-nothing_typed e p l c positive = absurd (not_nought (nothing l c) refl positive)
 
 abbrev duty_of : (e : Environment) (p : ProgramTree) → IsAcceptedProgram e p → Duty
 duty_of e p a = record { contract = a.contract; names = (begun e p a).names; rest = nothing; below = 0 }

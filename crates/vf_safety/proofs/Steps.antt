@@ -16,7 +16,7 @@ use Rattle.vf_meaning.specs.Parts.{Location, Content, Part, nothing, single, IsS
 use Rattle.vf_meaning.specs.Fits.{Fits}
 use Rattle.vf_meaning.specs.ShareOuts.{location_in, OwnsFor}
 use Rattle.vf_meaning.specs.Kept.{IsAt, Returns, Promise, CallsPointer}
-use Rattle.vf_meaning.proofs.Parts.{sums_turn, sums_regroup, nothing_is_neutral, in_left, in_right, in_either, single_only}
+use Rattle.vf_meaning.proofs.Parts.{sums_turn, sums_regroup, nothing_is_neutral, in_left, in_right, in_either, single_only, not_nought}
 use Rattle.vf_rules.specs.Types.{IsTypedContent, IsTypedPart}
 use Rattle.vf_safety.specs.Safe.{Duties, Within, duties_same, event_of, StartsNone, IsShared, IsShaped, Went, Secure}
 
@@ -253,3 +253,7 @@ typed_of_left e p q f all s h l c x = h l c (in_left q f all s l c x)
 
 pub typed_of_right : (e : Environment) (p : ProgramTree) (q f all : Part) → IsSum q f all → IsTypedPart e p all → IsTypedPart e p f
 typed_of_right e p q f all s h l c x = h l c (in_right q f all s l c x)
+
+pub nothing_typed : (e : Environment) (p : ProgramTree) → IsTypedPart e p nothing
+unfolding nothing
+nothing_typed e p l c positive = absurd (not_nought (nothing l c) refl positive)
