@@ -1,27 +1,29 @@
 //! Tokens that are still to be read.
 
-ghost use Rattle.std.specs.Prelude.{◌≡◌, Bool, true, Some, IfOk};
-ghost use Rattle.std.specs.Str.{bytes_eq};
-ghost use Rattle.vf_syntax.specs.Walks.{head_has, is_on, is_mark, is_word, is_name, is_wild, is_word_kind, at, mark, word, identifier, number, character, wild};
-ghost use Rattle.vf_syntax.specs.Written.{name};
+ghost use Rattle.std.specs.Prelude.{◌≡◌, IfOk, length};
+ghost use Rattle.vf_syntax.specs.Walks.{head_has, is_on, is_mark, is_word, is_name, is_wild, is_word_kind, is_wild_kind, is_punctuator};
+ghost use Rattle.vf_syntax.specs.declared.side.Side.TheVariants.{Real, Ghost};
+ghost use Rattle.vf_cursor.specs.declared.fault.Stop.TheVariants as stops;
+ghost use Rattle.vf_cursor.specs.declared.fault.Fault.TheVariants as faults;
+ghost use Rattle.vf_cursor.specs.Parsing.{Gives, here_at, mark_at, word_at, wild_at, name_at, number_at, character_at, next_by, number_of, character_of, is_there};
 
-use crate::fault::Stop;
+use crate::fault::{Fault, Stop};
 use std::alloc::Global;
-use vf_base::{IntType, Memory, Place, Text};
+use vf_base::{IntType, Place};
 use vf_lexer::{Kind, Punctuator, Token};
 use vf_syntax::keyword::{Keyword, is_keyword};
 use vf_syntax::side::Side;
 use vf_syntax::written::Name;
 
-/// Tokens that are still to be read, and the place of the file's end.
+/// Tokens that are still to be read.
 #[derive(Drop)]
 pub struct Cursor<'a> {
     pub alloc: Global,
     pub left: &'a [Token],
-    pub end: Place,
 }
 
-fn is_on(side: Side, token: &Token) -> bool
+/// Whether a token is of a kind of text.
+pub fn is_on(side: Side, token: &Token) -> bool
     ensures { result ≡ is_on side token.now }
 {
     match side {
@@ -30,15 +32,21 @@ fn is_on(side: Side, token: &Token) -> bool
     }
 }
 
-#[tactic(auto, unfolding(vf_syntax::specs::Walks::is_mark))]
-fn is_mark(side: Side, punctuator: Punctuator, token: &Token) -> bool
-    ensures { result ≡ is_mark side punctuator token.now }
+fn is_punctuator(punctuator: Punctuator, kind: Kind) -> bool
+    ensures { result ≡ is_punctuator punctuator kind }
 {
-    let is_same = match token.kind {
+    match kind {
         Kind::Punctuator(other) => other.spelling() == punctuator.spelling(),
         _ => false,
-    };
-    is_on(side, token) && is_same
+    }
+}
+
+/// Whether a token is a punctuator of a kind of text.
+#[tactic(auto, unfolding(vf_syntax::specs::Walks::is_mark))]
+pub fn is_mark(side: Side, punctuator: Punctuator, token: &Token) -> bool
+    ensures { result ≡ is_mark side punctuator token.now }
+{
+    is_on(side, token) && is_punctuator(punctuator, token.kind)
 }
 
 fn is_word_kind(kind: Kind) -> bool
@@ -50,37 +58,55 @@ fn is_word_kind(kind: Kind) -> bool
     }
 }
 
+fn is_wild_kind(kind: Kind) -> bool
+    ensures { result ≡ is_wild_kind kind }
+{
+    match kind {
+        Kind::Wild => true,
+        _ => false,
+    }
+}
+
+/// Whether a token is a keyword of a kind of text.
 #[tactic(auto, unfolding(vf_syntax::specs::Walks::is_word))]
-fn is_word(side: Side, keyword: Keyword, token: &Token) -> bool
+pub fn is_word(side: Side, keyword: Keyword, token: &Token) -> bool
     ensures { result ≡ is_word side keyword token.now }
 {
     is_on(side, token) && is_word_kind(token.kind) && token.text.as_bytes() == keyword.spelling()
 }
 
+/// Whether a token is a name of a kind of text.
 #[tactic(auto, unfolding(vf_syntax::specs::Walks::is_name))]
-fn is_name(side: Side, token: &Token) -> bool
+pub fn is_name(side: Side, token: &Token) -> bool
     ensures { result ≡ is_name side token.now }
 {
     is_on(side, token) && is_word_kind(token.kind) && !is_keyword(token.text.as_bytes())
 }
 
+/// Whether a token is the wild pattern.
 #[tactic(auto, unfolding(vf_syntax::specs::Walks::is_wild))]
-fn is_wild(token: &Token) -> bool
+pub fn is_wild(token: &Token) -> bool
     ensures { result ≡ is_wild token.now }
 {
-    let is_same = match token.kind {
-        Kind::Wild => true,
-        _ => false,
-    };
-    is_on(Side::Ghost, token) && is_same
+    is_on(Side::Ghost, token) && is_wild_kind(token.kind)
 }
 
-/// The bytes of a token, again.
-#[tactic(auto, using(crate::proofs::Same::text_same))]
-fn text_of(token: &Token) -> Result<Text, Memory>
-    ensures { IfOk result (λ x. bytes_eq token.now.text x ≡ true) }
+fn number_of(kind: Kind) -> Option<(u64, IntType)>
+    ensures { result ≡ number_of kind }
 {
-    token.text.copy()
+    match kind {
+        Kind::Number { value, int_type } => Some((value, int_type)),
+        _ => None,
+    }
+}
+
+fn character_of(kind: Kind) -> Option<u8>
+    ensures { result ≡ character_of kind }
+{
+    match kind {
+        Kind::Character { value } => Some(value),
+        _ => None,
+    }
 }
 
 impl<'a> Cursor<'a> {
@@ -124,11 +150,23 @@ impl<'a> Cursor<'a> {
         }
     }
 
-    /// Whether the next token is one of ghost text.
-    pub fn sees_ghost(&self) -> bool {
+    /// Whether the next token is a number.
+    pub fn sees_number(&self, side: Side) -> bool
+        ensures { result ≡ is_there (next_by side number_of self.now.left.now) }
+    {
         match self.left {
             [] => false,
-            [first, ..] => first.is_ghost,
+            [first, ..] => is_on(side, first) && number_of(first.kind).is_some(),
+        }
+    }
+
+    /// Whether the next token is a character constant.
+    pub fn sees_character(&self) -> bool
+        ensures { result ≡ is_there (next_by Real character_of self.now.left.now) }
+    {
+        match self.left {
+            [] => false,
+            [first, ..] => is_on(Side::Real, first) && character_of(first.kind).is_some(),
         }
     }
 
@@ -139,47 +177,38 @@ impl<'a> Cursor<'a> {
         Cursor {
             alloc: self.alloc,
             left: self.left,
-            end: self.end,
         }
     }
 
-    /// The tokens behind the next so many, which are still to be read here.
-    pub fn ahead(&self, count: usize) -> Cursor<'a> {
-        let left = match self.left.get(count..) {
-            Some(left) => left,
-            None => &[],
-        };
-        Cursor {
-            alloc: self.alloc,
-            left,
-            end: self.end,
-        }
+    /// The next token can't stand there.
+    pub fn syntax(&self) -> Stop
+        ensures { result ≡ stops.Fault (faults.Syntax (length self.now.left.now)) }
+    {
+        Stop::Fault(Fault::Syntax(self.left.len()))
     }
 
-    /// The place of the next token, or of the file's end.
-    pub fn place(&self) -> Place {
-        match self.left {
-            [] => self.end,
-            [first, ..] => first.place,
-        }
+    /// The next token stands too deep.
+    pub fn depth(&self) -> Stop
+        ensures { result ≡ stops.Fault (faults.Depth (length self.now.left.now)) }
+    {
+        Stop::Fault(Fault::Depth(self.left.len()))
     }
 
     /// The place of the next token.
-    #[tactic(auto, using(crate::proofs::Same::place_same), unfolding(vf_syntax::specs::Walks::at))]
+    #[tactic(auto, unfolding(crate::specs::Parsing::here_at))]
     pub fn here(&self) -> Result<Place, Stop>
-        ensures { IfOk result (λ p. at p self.now.left.now ≡ Some self.now.left.now) }
+        ensures { Gives result self.now.left.now (here_at self.now.left.now) }
     {
         match self.left {
-            [] => Err(Stop::Syntax(self.end)),
+            [] => Err(Stop::Fault(Fault::Syntax(0))),
             [first, ..] => Ok(first.place),
         }
     }
 
     /// Takes a punctuator, and gives its place.
-    #[tactic(auto, using(crate::proofs::Same::place_same), unfolding(vf_syntax::specs::Walks::at, vf_syntax::specs::Walks::mark))]
+    #[tactic(auto, unfolding(crate::specs::Parsing::mark_at))]
     pub fn mark(&mut self, side: Side, punctuator: Punctuator) -> Result<Place, Stop>
-        ensures place { IfOk result (λ p. at p self.old.left.now ≡ Some self.old.left.now) }
-        ensures taken { IfOk result (λ _. mark side punctuator self.old.left.now ≡ Some self.new.left.now) }
+        ensures { Gives result self.new.left.now (mark_at side punctuator self.old.left.now) }
     {
         match self.left {
             [first, rest @ ..] if is_mark(side, punctuator, first) => {
@@ -187,15 +216,14 @@ impl<'a> Cursor<'a> {
                 self.left = rest;
                 Ok(place)
             }
-            _ => Err(Stop::Syntax(self.place())),
+            _ => Err(self.syntax()),
         }
     }
 
     /// Takes a keyword, and gives its place.
-    #[tactic(auto, using(crate::proofs::Same::place_same), unfolding(vf_syntax::specs::Walks::at, vf_syntax::specs::Walks::word))]
+    #[tactic(auto, unfolding(crate::specs::Parsing::word_at))]
     pub fn word(&mut self, side: Side, keyword: Keyword) -> Result<Place, Stop>
-        ensures place { IfOk result (λ p. at p self.old.left.now ≡ Some self.old.left.now) }
-        ensures taken { IfOk result (λ _. word side keyword self.old.left.now ≡ Some self.new.left.now) }
+        ensures { Gives result self.new.left.now (word_at side keyword self.old.left.now) }
     {
         match self.left {
             [first, rest @ ..] if is_word(side, keyword, first) => {
@@ -203,15 +231,14 @@ impl<'a> Cursor<'a> {
                 self.left = rest;
                 Ok(place)
             }
-            _ => Err(Stop::Syntax(self.place())),
+            _ => Err(self.syntax()),
         }
     }
 
     /// Takes the wild pattern, and gives its place.
-    #[tactic(auto, using(crate::proofs::Same::place_same), unfolding(vf_syntax::specs::Walks::at, vf_syntax::specs::Walks::wild))]
+    #[tactic(auto, unfolding(crate::specs::Parsing::wild_at))]
     pub fn wild(&mut self) -> Result<Place, Stop>
-        ensures place { IfOk result (λ p. at p self.old.left.now ≡ Some self.old.left.now) }
-        ensures taken { IfOk result (λ _. wild self.old.left.now ≡ Some self.new.left.now) }
+        ensures { Gives result self.new.left.now (wild_at self.old.left.now) }
     {
         match self.left {
             [first, rest @ ..] if is_wild(first) => {
@@ -219,90 +246,57 @@ impl<'a> Cursor<'a> {
                 self.left = rest;
                 Ok(place)
             }
-            _ => Err(Stop::Syntax(self.place())),
-        }
-    }
-
-    /// Takes a name, and gives its text.
-    #[tactic(auto, unfolding(vf_syntax::specs::Walks::identifier))]
-    pub fn identifier(&mut self, side: Side) -> Result<Text, Stop>
-        ensures { IfOk result (λ x. identifier side x self.old.left.now ≡ Some self.new.left.now) }
-    {
-        match self.left {
-            [first, rest @ ..] if is_name(side, first) => {
-                let text = text_of(first)?;
-                self.left = rest;
-                Ok(text)
-            }
-            _ => Err(Stop::Syntax(self.place())),
+            _ => Err(self.syntax()),
         }
     }
 
     /// Takes a name with its place.
-    #[tactic(auto, unfolding(vf_syntax::specs::Written::name))]
+    #[tactic(auto, unfolding(crate::specs::Parsing::name_at))]
     pub fn name(&mut self, side: Side) -> Result<Name, Stop>
-        ensures { IfOk result (λ n. name side n self.old.left.now ≡ Some self.new.left.now) }
+        ensures { Gives result self.new.left.now (name_at side self.old.left.now) }
     {
-        let place = self.here()?;
-        let text = self.identifier(side)?;
-        Ok(Name { text, place })
-    }
-
-    /// Whether the next token is a number.
-    pub fn sees_number(&self, side: Side) -> bool {
         match self.left {
-            [] => false,
-            [first, ..] => match first.kind {
-                Kind::Number { .. } => is_on(side, first),
-                _ => false,
-            },
+            [first, rest @ ..] if is_name(side, first) => {
+                let text = first.text.copy()?;
+                let place = first.place;
+                self.left = rest;
+                Ok(Name { text, place })
+            }
+            _ => Err(self.syntax()),
         }
     }
 
     /// Takes a number, and gives it with its type.
-    #[tactic(auto, using(crate::proofs::Same::number_same), unfolding(vf_syntax::specs::Walks::number))]
+    #[tactic(auto, unfolding(crate::specs::Parsing::number_at))]
     pub fn number(&mut self, side: Side) -> Result<(u64, IntType), Stop>
-        ensures { IfOk result (λ n. number side n.0 n.1 self.old.left.now ≡ Some self.new.left.now) }
+        ensures { Gives result self.new.left.now (number_at side self.old.left.now) }
     {
-        let place = self.place();
         match self.left {
-            [] => Err(Stop::Syntax(place)),
-            [first, rest @ ..] => match first.kind {
-                Kind::Number { value, int_type } if is_on(side, first) => {
+            [first, rest @ ..] if is_on(side, first) => match number_of(first.kind) {
+                Some(number) => {
                     self.left = rest;
-                    Ok((value, int_type))
+                    Ok(number)
                 }
-                _ => Err(Stop::Syntax(place)),
+                None => Err(self.syntax()),
             },
-        }
-    }
-
-    /// Whether the next token is a character constant.
-    pub fn sees_character(&self) -> bool {
-        match self.left {
-            [] => false,
-            [first, ..] => match first.kind {
-                Kind::Character { .. } => is_on(Side::Real, first),
-                _ => false,
-            },
+            _ => Err(self.syntax()),
         }
     }
 
     /// Takes a character constant, and gives the value of its byte.
-    #[tactic(auto, using(crate::proofs::Same::number_same), unfolding(vf_syntax::specs::Walks::character))]
+    #[tactic(auto, unfolding(crate::specs::Parsing::character_at))]
     pub fn character(&mut self) -> Result<u8, Stop>
-        ensures { IfOk result (λ n. character n self.old.left.now ≡ Some self.new.left.now) }
+        ensures { Gives result self.new.left.now (character_at self.old.left.now) }
     {
-        let place = self.place();
         match self.left {
-            [] => Err(Stop::Syntax(place)),
-            [first, rest @ ..] => match first.kind {
-                Kind::Character { value } if is_on(Side::Real, first) => {
+            [first, rest @ ..] if is_on(Side::Real, first) => match character_of(first.kind) {
+                Some(value) => {
                     self.left = rest;
                     Ok(value)
                 }
-                _ => Err(Stop::Syntax(place)),
+                None => Err(self.syntax()),
             },
+            _ => Err(self.syntax()),
         }
     }
 }

@@ -1,16 +1,22 @@
 //! Why reading stops.
 
 use std::alloc::AllocFailed;
-use vf_base::{Memory, Place};
+use vf_base::Memory;
 
-/// Why tokens give no tree.
+/// Why tokens give no tree, with how many tokens were left there, the one that is named included.
+#[derive(Clone, Copy, Debug, PartialEq, Eq)]
+pub enum Fault {
+    /// A token that can't stand there, or with 0 the end of the tokens.
+    Syntax(usize),
+    /// A token that stands too deep.
+    Depth(usize),
+}
+
+/// Why reading stops.
 #[derive(Clone, Copy, Debug, PartialEq, Eq)]
 pub enum Stop {
-    /// A token that can't stand there, or the end of the file.
-    Syntax(Place),
-    /// A token that stands too deep.
-    Depth(Place),
     Memory,
+    Fault(Fault),
 }
 
 impl From<Memory> for Stop {

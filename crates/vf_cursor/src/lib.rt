@@ -1,7 +1,7 @@
 //! Tokens that are still to be read, and the smallest things that are read from them.
 //!
-//! Each call that takes tokens says which walk over the tokens it did: the walk of the definition of
-//! spelling that leads from the tokens before the call to those after it.
+//! Each call that takes tokens gives what a parser on lists of tokens gives (`specs/Parsing.antt`), which
+//! the laws of this crate and of those above it compare with the definition of spelling.
 #![tactic(auto)]
 
 pub mod cursor;

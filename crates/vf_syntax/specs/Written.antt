@@ -125,3 +125,42 @@ assignment_mark assignments.RemainderBecomes = punctuators.PercentBecomes
 abbrev pub step_mark : StepOperator → Punctuator
 step_mark steps.Increment = punctuators.PlusPlus
 step_mark steps.Decrement = punctuators.MinusMinus
+
+-- the operator in front of its operand that a punctuator is (C11 6.5.3)
+abbrev pub unary_of : Punctuator → Option UnaryOperator
+unary_of punctuators.Minus = Some unaries.Minus
+unary_of punctuators.Not = Some unaries.Not
+unary_of p = None
+
+-- the operator between operands that a punctuator is (C11 6.5.5 to 6.5.14)
+abbrev pub binary_of : Punctuator → Option BinaryOperator
+binary_of punctuators.Star = Some binaries.Times
+binary_of punctuators.Slash = Some binaries.Divide
+binary_of punctuators.Percent = Some binaries.Remainder
+binary_of punctuators.Plus = Some binaries.Plus
+binary_of punctuators.Minus = Some binaries.Minus
+binary_of punctuators.Less = Some binaries.Less
+binary_of punctuators.LessOrEqual = Some binaries.LessOrEqual
+binary_of punctuators.Greater = Some binaries.Greater
+binary_of punctuators.GreaterOrEqual = Some binaries.GreaterOrEqual
+binary_of punctuators.Equal = Some binaries.Equal
+binary_of punctuators.NotEqual = Some binaries.NotEqual
+binary_of punctuators.AndAnd = Some binaries.And
+binary_of punctuators.OrOr = Some binaries.Or
+binary_of p = None
+
+-- the operator of an assignment that a punctuator is (C11 6.5.16)
+abbrev pub assignment_of : Punctuator → Option AssignmentOperator
+assignment_of punctuators.Becomes = Some assignments.Becomes
+assignment_of punctuators.PlusBecomes = Some assignments.PlusBecomes
+assignment_of punctuators.MinusBecomes = Some assignments.MinusBecomes
+assignment_of punctuators.StarBecomes = Some assignments.TimesBecomes
+assignment_of punctuators.SlashBecomes = Some assignments.DivideBecomes
+assignment_of punctuators.PercentBecomes = Some assignments.RemainderBecomes
+assignment_of p = None
+
+-- `++` or `--`, where a punctuator is one
+abbrev pub step_of : Punctuator → Option StepOperator
+step_of punctuators.PlusPlus = Some steps.Increment
+step_of punctuators.MinusMinus = Some steps.Decrement
+step_of p = None

@@ -1,7 +1,7 @@
 //! Operators.
 
-ghost use Rattle.std.specs.Prelude.{◌≡◌, IfSome};
-ghost use Rattle.vf_syntax.specs.Written.{unary_mark, binary_mark, level_of, looseness, assignment_mark, step_mark};
+ghost use Rattle.std.specs.Prelude.{◌≡◌};
+ghost use Rattle.vf_syntax.specs.Written.{unary_mark, binary_mark, level_of, looseness, assignment_mark, step_mark, unary_of, binary_of, assignment_of, step_of};
 
 use vf_lexer::Punctuator;
 
@@ -101,7 +101,7 @@ impl UnaryOperator {
 
     /// The operator that is written so.
     pub fn of(punctuator: Punctuator) -> Option<UnaryOperator>
-        ensures { IfSome result (λ o. unary_mark o ≡ punctuator) }
+        ensures { result ≡ unary_of punctuator }
     {
         match punctuator {
             Punctuator::Minus => Some(UnaryOperator::Minus),
@@ -135,7 +135,7 @@ impl BinaryOperator {
 
     /// The operator that is written so.
     pub fn of(punctuator: Punctuator) -> Option<BinaryOperator>
-        ensures { IfSome result (λ o. binary_mark o ≡ punctuator) }
+        ensures { result ≡ binary_of punctuator }
     {
         match punctuator {
             Punctuator::Star => Some(BinaryOperator::Times),
@@ -208,7 +208,7 @@ impl AssignmentOperator {
 
     /// The operator that is written so.
     pub fn of(punctuator: Punctuator) -> Option<AssignmentOperator>
-        ensures { IfSome result (λ o. assignment_mark o ≡ punctuator) }
+        ensures { result ≡ assignment_of punctuator }
     {
         match punctuator {
             Punctuator::Becomes => Some(AssignmentOperator::Becomes),
@@ -235,7 +235,7 @@ impl StepOperator {
 
     /// The operator that is written so.
     pub fn of(punctuator: Punctuator) -> Option<StepOperator>
-        ensures { IfSome result (λ o. step_mark o ≡ punctuator) }
+        ensures { result ≡ step_of punctuator }
     {
         match punctuator {
             Punctuator::PlusPlus => Some(StepOperator::Increment),
