@@ -5,8 +5,6 @@ use Rattle.vf_tree.specs.Core.{Identity}
 use Rattle.vf_model.specs.Values as values
 use Rattle.vf_model.specs.Memory.{Block, granted_block}
 use Rattle.vf_model.specs.State.{State, Turn, over_memory, receives}
-use Rattle.vf_model.specs.Acts.{Act}
-use Rattle.vf_model.specs.Runs.{happens}
 use Rattle.vf_engine.specs.States.{state_of, turn_of, callers_of}
 use Rattle.vf_engine.specs.declared.state.Frame.{Frame}
 use Rattle.vf_engine.specs.declared.state.Thread.{Thread}

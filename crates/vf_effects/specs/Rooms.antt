@@ -1,5 +1,5 @@
 -- What an effect needs room for.
-use Rattle.std.specs.Prelude.{ℕ, ◌<◌, ◌≤◌, ◌≢◌, List, length, unsigned_abs, IsSome}
+use Rattle.std.specs.Prelude.{ℕ, ◌<◌, ◌≤◌, ◌≢◌, List, length, unsigned_abs}
 use Rattle.std.specs.FinMap as map
 use Rattle.vf_tree.specs.Core.{Identity}
 use Rattle.vf_engine.specs.Memories.{memory_of}

@@ -109,7 +109,14 @@ pub fn allocate_ints(
         return Ok(());
     }
     let cells = unset(alloc, count.unsigned_abs() as usize)?;
-    place_block(running, thread, grant, Some(local), Block::Ints(cells), next)
+    place_block(
+        running,
+        thread,
+        grant,
+        Some(local),
+        Block::Ints(cells),
+        next,
+    )
 }
 
 /// Makes a free mutex, or ends the run where it is denied.

@@ -55,14 +55,21 @@ pub fn enter(
     next: u32,
 ) -> Result<(), Memory>
     requires { thread < length running.old.threads.items }
-    ensures happened { OnOk result ((grant : ℕ) → Happened program.now.unit.names (program_of program.now.unit) running.old thread grant (effects.Enter number target arguments next) running.new) }
+    ensures happened { OnOk result ((grant : ℕ) → Happened program.now.unit.names (program_of program.now.unit) running.old thread grant (effects.Enter number target arguments.entry next) running.new) }
     ensures unchanged { OnErr result ((names : List Identity) → StaysAs names running.old running.new) }
 {
     let Some(function) = program.unit.functions.get(number) else {
         return Ok(());
     };
     let caller = &running.threads[thread as usize];
-    let new = called_frame(alloc, caller, number, function, target, arguments.as_slice())?;
+    let new = called_frame(
+        alloc,
+        caller,
+        number,
+        function,
+        target,
+        arguments.as_slice(),
+    )?;
     enter_at(&mut running.threads, thread as usize, new, next)
 }
 

@@ -3,10 +3,12 @@
 #![tactic(auto)]
 
 mod allocations;
-mod apply;
 mod calls;
+mod effects;
 mod mutexes;
 mod output;
 mod starts;
+#[cfg(test)]
+mod tests;
 
-pub use apply::apply;
+pub use effects::apply;

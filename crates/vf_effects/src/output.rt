@@ -29,7 +29,7 @@ pub fn put_char(
         thread,
         Change::Receive {
             target,
-            value: Value::Number(i128::from(byte)),
+            value: Value::Number(byte as i128),
             next,
         },
     );

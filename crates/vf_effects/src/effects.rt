@@ -17,17 +17,17 @@ use vf_core::Program;
 use vf_engine::{Change, Effect, Running, go, remove, store};
 
 /// Takes the step of a thread that has the effect, by a grant.
-pub fn apply<'a>(
+pub fn apply(
     alloc: Global,
-    program: &'a Program,
+    program: &Program,
     running: &mut Running,
     thread: u32,
     grant: u32,
-    effect: Effect<'a>,
+    effect: Effect,
 ) -> Result<(), Memory>
     requires started { thread < length running.old.threads.items }
     requires room { Fits running.old grant effect }
-    ensures happened { OnOk result (Happened program.now.unit.names (program_of program.now.unit) running.old thread grant effect running.new) }
+    ensures happened { OnOk result (Happened program.now.unit.names (program_of program.now.unit) running.old thread grant effect.entry running.new) }
     ensures unchanged { OnErr result (StaysAs program.now.unit.names running.old running.new) }
 {
     match effect {
