@@ -12,7 +12,7 @@ use crate::threads::{Change, change_at};
 use crate::value::Value;
 
 /// Goes on, with a change of the frame.
-fn go(running: &mut Running, thread: u32, change: Change)
+pub fn go(running: &mut Running, thread: u32, change: Change)
     requires { thread < length running.old.threads.items }
     ensures { (names : List Identity) → Changed names running.old thread change running.new }
 {
@@ -20,7 +20,7 @@ fn go(running: &mut Running, thread: u32, change: Change)
 }
 
 /// Writes a cell.
-fn store(running: &mut Running, thread: u32, cell: Cell, value: Value, next: u32)
+pub fn store(running: &mut Running, thread: u32, cell: Cell, value: Value, next: u32)
     requires { thread < length running.old.threads.items }
     ensures { (names : List Identity) (p : ProgramTree) (grant : ℕ) (place : Place) → Happened names p running.old thread grant (effects.Store cell value place next) running.new }
 {
@@ -29,7 +29,7 @@ fn store(running: &mut Running, thread: u32, cell: Cell, value: Value, next: u32
 }
 
 /// Takes a block away.
-fn remove(running: &mut Running, thread: u32, block: u32, next: u32)
+pub fn remove(running: &mut Running, thread: u32, block: u32, next: u32)
     requires { thread < length running.old.threads.items }
     ensures free { (names : List Identity) (p : ProgramTree) (grant : ℕ) (place : Place) → Happened names p running.old thread grant (effects.Free block place next) running.new }
     ensures removed { (names : List Identity) (p : ProgramTree) (grant : ℕ) → Happened names p running.old thread grant (effects.Remove block next) running.new }

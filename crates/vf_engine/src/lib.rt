@@ -17,6 +17,14 @@ mod threads;
 mod value;
 mod words;
 
+pub use apply::{go, remove, store};
+pub use blocks::{Block, Blocks, set_at};
+pub use cell::Cell;
+pub use effect::Effect;
 pub use expressions::{Trouble, evaluate};
-pub use value::Value;
+pub use frames::{argument_values, frame_of_call};
+pub use state::{End, Frame, Running, Thread};
+pub use step::effect_in;
+pub use threads::{Change, change_at, enter_at, leave_at};
+pub use value::{Value, number_of, same_value};
 pub use words::{Limit, StepFault, Stepped};
