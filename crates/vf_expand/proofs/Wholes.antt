@@ -18,9 +18,9 @@ use Rattle.vf_expand.proofs.Walking.{going_at_first, fails_faults}
 pub whole_text : (library : Library) (path : List ℕ) (file : Loaded) (walk : Walk) → Starts path file walk → text_of_file library path file ≡ (walk_text library walk >>= λ s. counted (end_of file.number file.bytes) s.0)
 whole_text library path file walk starts =
     ap (λ r. r >>= λ s. counted (end_of file.number file.bytes) s.0) (sym (
-      ap (λ ps. text_from library ps (going_of walk.current) (unit_of walk.unit)) starts.pauses
-      ∙ ap (λ g. text_from library [] g (unit_of walk.unit)) starts.current
-      ∙ ap (text_from library [] (going_at_first path file)) starts.unit))
+    ap (λ ps. text_from library ps (going_of walk.current) (unit_of walk.unit)) starts.pauses
+    ∙ ap (λ g. text_from library [] g (unit_of walk.unit)) starts.current
+    ∙ ap (text_from library [] (going_at_first path file)) starts.unit))
 
 -- what is given of a unit that was counted
 pub counted_gives : (text : Result Text_of_unit Fault) (r : Result UnitTokens ExpandFault) (t : Result Text_of_unit Fault) → text ≡ t → Gives text_of r t → FileGives text r

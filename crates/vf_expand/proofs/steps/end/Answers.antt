@@ -16,7 +16,6 @@ returns-in_err-header-clause-own c =
     let p = err_from_is_err_and c.from_residual.result c.from_residual.ensures.1 in
     rw (p.1, p.2) (fails_own c.in_err-header.field-0.0 _ (c.in_err-header.ensures (unit_of c.args.walk.unit)))
 
-
 pub returns-in-None-clause-exact : goal.returns-in-None-clause-exact
 returns-in-None-clause-exact c = λ library.
     (header_of c.in_ok-header.header, end_last library (pauses_of c.args.walk.stack.items) (going_of c.args.walk.current) (unit_of c.args.walk.unit) (header_of c.in_ok-header.header) c.in-None.ensures c.requires.done (c.in_ok-header.ensures (unit_of c.args.walk.unit)))

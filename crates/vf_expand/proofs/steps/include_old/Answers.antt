@@ -18,7 +18,6 @@ returns-in_err-join_old-clause-own c =
     let p = err_from_is_err_and c.from_residual.result c.from_residual.ensures.1 in
     rw (p.1, p.2) (fails_own c.in_err-join_old.field-0.0 _ c.in_err-join_old.ensures)
 
-
 pub returns-clause-exact : goal.returns-clause-exact
 returns-clause-exact c = λ library.
     let ps : List Pause = pauses_of c.args.walk.stack.items in

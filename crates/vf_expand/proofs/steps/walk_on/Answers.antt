@@ -26,8 +26,8 @@ returns-in-Ends-clause-reads g c = reads_then _ _ _ c.steps.invariant.reads c.go
 pub steps-preserved : goal.steps-preserved
 steps-preserved g c = record {
   exact = λ library tells.
-    let before = c.steps.invariant.exact library (tells_before library c.steps.snapshot c.go_on.new.snapshot c.go_on.ensures.reads.grows tells) in
-    before ∙ subst (λ n. NextGives (walk_text library c.steps.state) library (Ok n)) c.in-Goes.is (c.in_ok-next.ensures.exact library tells);
+      let before = c.steps.invariant.exact library (tells_before library c.steps.snapshot c.go_on.new.snapshot c.go_on.ensures.reads.grows tells) in
+      before ∙ subst (λ n. NextGives (walk_text library c.steps.state) library (Ok n)) c.in-Goes.is (c.in_ok-next.ensures.exact library tells);
   few = subst FewNext c.in-Goes.is c.in_ok-next.ensures.few;
   reads = reads_then _ _ _ c.steps.invariant.reads c.go_on.ensures.reads;
 }
