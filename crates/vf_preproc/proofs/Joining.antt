@@ -12,8 +12,8 @@ use Rattle.vf_preproc.specs.UnitText.{joined}
 -- a fault stays the same whatever was to come
 pub Fails-then : {A B : Type 0} (e : ExpandFault) (r : Result A Fault) (f : A → Result B Fault) → Fails e r → Fails e (r >>= f)
 Fails-then (faults.Refused x) r f h = (ap (λ q. q >>= f) h.0, h.1)
-Fails-then faults.Missing r f h = ap (λ q. q >>= f) h
-Fails-then faults.ReadFault r f h = tt
+Fails-then faults.Missing r f h = absurd h
+Fails-then faults.ReadFault r f h = absurd h
 Fails-then faults.Memory r f h = tt
 
 -- one more macro

@@ -2,6 +2,5 @@ pub mod Replacing
 pub mod Lines
 pub mod Targeting
 pub mod Joining
-pub mod Loading
 pub mod Grouping
 pub mod Ending

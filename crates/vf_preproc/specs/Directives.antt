@@ -49,6 +49,7 @@ abbrev pub lines_of : List Token → List (List Token)
 lines_of [] = []
 lines_of (t ∷ ts) = with_first t (lines_of ts)
 
+-- the kind of `#`
 abbrev pub is_hash_kind : Kind → Bool
 is_hash_kind (kinds.Punctuator punctuators.Hash) = true
 is_hash_kind _ = false

@@ -20,6 +20,7 @@ no_macros = record { names = []; bodies = [] }
 abbrev pub body : Table → ℕ → List Token
 body table number = unwrap_or (slice_get table.bodies number) []
 
+-- the tokens of the macro that was found, where one was
 abbrev pub body_found : Table → Option ℕ → Option (List Token)
 body_found table None = None
 body_found table (Some number) = Some (body table number)
@@ -32,6 +33,7 @@ body_of table name = body_found table (number_of table.names name)
 abbrev pub with_macro : Table → List ℕ → List Token → Table
 with_macro table name tokens = record { names = table.names ++ name ∷ []; bodies = table.bodies ++ tokens ∷ [] }
 
+-- the kind of names
 abbrev pub is_name_kind : Kind → Bool
 is_name_kind kinds.Name = true
 is_name_kind _ = false
@@ -44,6 +46,7 @@ is_name t = is_name_kind t.kind
 abbrev pub at_use : Token → Token → Token
 at_use name t = record t { place = name.place; is_ghost = name.is_ghost }
 
+-- a number that was found, unless it is one of these
 abbrev pub unless_among : List ℕ → Option ℕ → Option ℕ
 unless_among hidden None = None
 unless_among hidden (Some number) = if list_any (nat_eq number) hidden then None else Some number
@@ -52,6 +55,7 @@ unless_among hidden (Some number) = if list_any (nat_eq number) hidden then None
 abbrev pub macro_at : Table → List ℕ → Token → Option ℕ
 macro_at table hidden t = if is_name t then unless_among hidden (number_of table.names t.text) else None
 
+-- what stands in the place of a token: the token itself, or what a macro with a number gives
 abbrev pub in_place : Option ℕ → Token → (ℕ → List Token) → List Token
 in_place None t tokens = t ∷ []
 in_place (Some number) t tokens = tokens number

@@ -57,14 +57,17 @@ quoted_target ghost file hash name = if not (is_scoped name) || bytes_eq name []
 abbrev pub angle_target : Bool → Place → List ℕ → Result (List ℕ) Fault
 angle_target ghost hash name = if is_scoped name && is_some (text_of name) then prelude_target ghost hash name else no_include hash
 
+-- the kind of a text between quotes
 abbrev pub is_literal_kind : Kind → Bool
 is_literal_kind kinds.Literal = true
 is_literal_kind _ = false
 
+-- the kind of `<`
 abbrev pub is_less_kind : Kind → Bool
 is_less_kind (kinds.Punctuator punctuators.Less) = true
 is_less_kind _ = false
 
+-- the kind of `>`
 abbrev pub is_greater_kind : Kind → Bool
 is_greater_kind (kinds.Punctuator punctuators.Greater) = true
 is_greater_kind _ = false
@@ -79,6 +82,7 @@ closing (t ∷ u ∷ us) = if is_greater_kind t.kind then None else closing (u �
 abbrev pub between : List ℕ → ℕ → ℕ → List ℕ
 between bytes from to = take (to - from) (drop from bytes)
 
+-- what `<name` means, by the `>` behind it where there is one
 abbrev pub closed_target : Bool → List ℕ → Place → Token → Option Token → Result (List ℕ) Fault
 closed_target ghost bytes hash less None = no_directive hash
 closed_target ghost bytes hash less (Some greater) = angle_target ghost hash (between bytes less.«end» greater.start)

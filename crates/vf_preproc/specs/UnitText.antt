@@ -194,6 +194,7 @@ abbrev pub old_header : Place → Unit_so_far → Option (Option Header) → Res
 old_header hash unit (Some (Some header)) = Ok (unit, header)
 old_header hash unit _ = no_include hash
 
+-- what the include of a header makes of a unit, by its number among the files that were begun where it has one
 abbrev pub any_header : Includer → Library → List ℕ → Place → Unit_so_far → Option ℕ → Result (Unit_so_far × Header) Fault
 any_header include library path hash unit None = loaded hash (library path) >>= λ file. new_header include path unit file
 any_header include library path hash unit (Some number) = old_header hash unit (slice_get unit.complete number)

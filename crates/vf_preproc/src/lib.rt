@@ -3,8 +3,8 @@
 //!
 //! `specs/UnitText.antt` says what the text of a unit is, and `header_at` there is recursive over
 //! files. The code has all that one file needs: lines, directives, groups, macros and their
-//! replacement, what an include means, the files with their tokens, and what a header leaves to its
-//! includer. The walk over the files is not here yet.
+//! replacement, what an include means, and what a header leaves to its includer. The walk over the
+//! files stands above it.
 #![tactic(auto)]
 
 mod fault;
@@ -28,7 +28,7 @@ pub use join::with_header;
 pub use macros::Macros;
 pub use replace::{MOST_TOKENS, put_expanded};
 pub use scope::{Header, Scope, define, names_in};
-pub use sources::{Loaded, load};
+pub use sources::Loaded;
 pub use steps::{File, Step, follow_line};
 pub use unit::Unit;
 pub use words::{Word, first_line, has_ghost, word_of};

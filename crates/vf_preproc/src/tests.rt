@@ -2,10 +2,9 @@ use super::*;
 use std::alloc::Global;
 use std::process::Abort;
 use std::test::Fail;
-use vf_base::{MemoryFiles, NumberList, Place, Rule, Sequence};
+use vf_base::{NumberList, Place, Rule, Sequence};
 use vf_lexer::{TokenList, lex};
 use vf_names::Names;
-use vf_snapshot::Snapshot;
 
 /// The tokens of a short text.
 fn tokens_of(alloc: Global, text: &str) -> Result<TokenList, Fail> {
@@ -175,33 +174,6 @@ fn targets(rt: HostRuntime) -> Result<(), Fail> {
                 assert!(rt; path == Err(refusal.rule), "at {text}");
             }
             Err(_) => assert!(rt; false, "at {text}"),
-        }
-    }
-    Ok(())
-}
-
-#[test]
-fn loads(rt: HostRuntime) -> Result<(), Fail> {
-    let mut files = MemoryFiles::new(rt.alloc(), NumberList::new(rt.alloc()));
-    files.set("a.h", b"int f();")?;
-    files.set("b.h", b"a $")?;
-    let mut snapshot = Snapshot::new(rt.alloc());
-    let hash = Place {
-        file: 0,
-        line: 3,
-        column: 1,
-    };
-    for (path, size, rule) in [
-        ("a.h", 5, None),
-        ("b.h", 0, Some(Rule::Lex)),
-        ("c.h", 0, Some(Rule::Include)),
-    ] {
-        match load(rt.alloc(), &mut snapshot, &mut files, path, hash) {
-            Ok(file) => assert_eq!(rt; file.tokens.len(), size, "at {path}"),
-            Err(ExpandFault::Refused(refusal)) => {
-                assert_eq!(rt; Some(refusal.rule), rule, "at {path}");
-            }
-            Err(_) => assert!(rt; false, "at {path}"),
         }
     }
     Ok(())

@@ -1,0 +1,6 @@
+pub mod Loading
+pub mod Learning
+pub mod Walking
+pub mod Paths
+pub mod Following
+pub mod Wholes

@@ -1,0 +1,21 @@
+use Rattle.std.proofs.Common.{◌≡◌, sym, ap, ◌∙◌}
+use Rattle.std.proofs.lemmas.Result.{err_from_is_err_and}
+use Rattle.vf_preproc.specs.Scopes.{header_of}
+use Rattle.vf_preproc.specs.Units.{unit_of}
+use Rattle.vf_expand.specs.Walks.{going_of, pauses_of}
+use Rattle.vf_expand.proofs.Walking.{end_fails, end_last, fails_own}
+use Rattle.vf_expand.proofs.steps.end.Goals as goal
+
+pub returns-in_err-header-clause-exact : goal.returns-in_err-header-clause-exact
+returns-in_err-header-clause-exact c = λ library.
+    let p = err_from_is_err_and c.from_residual.result c.from_residual.ensures.1 in
+    rw (p.1, p.2) (end_fails library (pauses_of c.args.walk.stack.items) (going_of c.args.walk.current) (unit_of c.args.walk.unit) c.in_err-header.field-0.0 c.requires.done (c.in_err-header.ensures (unit_of c.args.walk.unit)))
+
+pub returns-in_err-header-clause-own : goal.returns-in_err-header-clause-own
+returns-in_err-header-clause-own c =
+    let p = err_from_is_err_and c.from_residual.result c.from_residual.ensures.1 in
+    rw (p.1, p.2) (fails_own c.in_err-header.field-0.0 _ (c.in_err-header.ensures (unit_of c.args.walk.unit)))
+
+pub returns-in-None-clause-exact : goal.returns-in-None-clause-exact
+returns-in-None-clause-exact c = λ library.
+    (header_of c.in_ok-header.header, end_last library (pauses_of c.args.walk.stack.items) (going_of c.args.walk.current) (unit_of c.args.walk.unit) (header_of c.in_ok-header.header) c.in-None.ensures c.requires.done (c.in_ok-header.ensures (unit_of c.args.walk.unit)))

@@ -1,0 +1,4 @@
+pub mod Worlds
+pub mod Walks
+pub mod Steps
+pub mod Wholes
