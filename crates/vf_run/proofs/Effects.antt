@@ -1,16 +1,15 @@
 -- The counts of the state after each effect.
-use Rattle.std.proofs.Common.{◌≡◌, ℕ, ◌+◌, ℤ, ◌≢◌, Bool, true, false, cond, List, [], ◌∷◌, ◌==◌, map, length, Option, Some, None, IsSome, is_some, slice_get, unsigned_abs, pos, refl, sym, ap, subst, ◌∙◌, eq-eqb}
+use Rattle.std.proofs.Common.{◌≡◌, ℕ, ◌+◌, ◌≢◌, true, false, cond, List, [], ◌∷◌, ◌==◌, length, Option, Some, None, IsSome, pos, refl, sym, subst, ◌∙◌, eq-eqb}
 use Rattle.std.specs.FinMap as finite
 use Rattle.std.proofs.lemmas.Bool.{false≢true, eqb-true}
-use Rattle.vf_base.specs.declared.place.Place.{Place}
 use Rattle.vf_tree.specs.Core.{Identity, FunctionTree, ProgramTree}
 use Rattle.vf_model.specs.Values as values
 use Rattle.vf_model.specs.Memory.{Memory, Block, Mutex, Handle, granted_block}
-use Rattle.vf_model.specs.State.{State, Turn, Aborted, at_step, with_local, with_result, sets, receives, over_memory, after_start, goes_on, ended, entered}
+use Rattle.vf_model.specs.State.{State, Turn, Aborted, at_step, with_local, with_result, sets, receives, over_memory, after_start, ended, entered}
 use Rattle.vf_model.specs.Acts.{Allocates}
 use Rattle.vf_model.specs.Accesses.{allocates}
 use Rattle.vf_model.specs.Runs.{happens}
-use Rattle.vf_engine.specs.States.{state_of, turn_of, callers_of, thread_of}
+use Rattle.vf_engine.specs.States.{turn_of, callers_of}
 use Rattle.vf_engine.specs.Effects.{enters_found, starts_found, joinable_found}
 use Rattle.vf_engine.specs.declared.state.Frame as code
 use Rattle.vf_engine.specs.declared.state.Thread.{Thread}

@@ -1,5 +1,5 @@
 -- Who can step.
-use Rattle.std.proofs.Common.{◌≡◌, ℕ, ◌<◌, Bool, true, false, not, ◌&&◌, List, [], ◌∷◌, Option, Some, None, IsSome, is_none, Result, Ok, Err, ◌⊎◌, slice_get, refl, sym, ap, subst, ◌∙◌, ⊎_elim}
+use Rattle.std.proofs.Common.{◌≡◌, ℕ, Bool, true, false, not, ◌&&◌, List, Option, Some, None, IsSome, is_none, Result, Ok, Err, slice_get, refl, sym, ap, subst, ◌∙◌, ⊎_elim}
 use Rattle.std.proofs.lemmas.Bool.{true≢false, false≢true, and_from, not_from_false}
 use Rattle.std.specs.Option.{option_map}
 use Rattle.std.proofs.lemmas.Option.{slice_get-map}
@@ -8,7 +8,7 @@ use Rattle.vf_model.specs.declared.words.Event.{Event}
 use Rattle.vf_model.specs.Values as values
 use Rattle.vf_model.specs.State as model
 use Rattle.vf_model.specs.State.{State, Turn}
-use Rattle.vf_model.specs.Acts.{Act, Waits}
+use Rattle.vf_model.specs.Acts.{Waits}
 use Rattle.vf_model.specs.Steps.{next_act, act_by, act_in}
 use Rattle.vf_model.specs.Runs.{after, after_unended, happens, is_wait, can_step}
 use Rattle.vf_engine.specs.States.{state_of, turn_of, callers_of, frames_with, thread_of, end_of}

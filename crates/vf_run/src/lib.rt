@@ -12,7 +12,10 @@ mod counts;
 mod machine;
 mod opening;
 mod stepping;
+#[cfg(test)]
+mod tests;
 
+pub use acting::next_effect;
 pub use counts::Counts;
 pub use machine::Machine;
 pub use vf_core::{Program, Unit, assemble_unit};

@@ -27,6 +27,7 @@ pub struct Machine {
 }
 
 impl Machine {
+    ghost use Rattle.std.specs.FinMap as finite;
     ghost use Rattle.vf_engine.specs.declared.words.Limit as declared_limit;
     ghost use Rattle.vf_engine.specs.declared.words.StepFault.TheVariants as faults;
     ghost use Rattle.vf_run.specs.Acting.{Answers};
@@ -82,5 +83,26 @@ impl Machine {
         ensures { result.now ≡ (machine_state self.now).output }
     {
         self.running.output.as_bytes()
+    }
+
+    /// How many blocks there are, mutexes and handles among them.
+    pub fn blocks(&self) -> u32
+        ensures { result ≡ finite.len (machine_state self.now).memory }
+    {
+        self.counts.blocks as u32
+    }
+
+    /// The program that it runs.
+    pub fn program(&self) -> &Program
+        ensures { result.now ≡ self.now.program }
+    {
+        &self.program
+    }
+
+    /// The state that it is in.
+    pub fn running(&self) -> &Running
+        ensures { result.now ≡ self.now.running }
+    {
+        &self.running
     }
 }

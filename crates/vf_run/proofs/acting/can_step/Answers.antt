@@ -1,6 +1,5 @@
-use Rattle.std.proofs.Common.{◌≡◌, true, false, not, sym, ap, ◌∙◌, ⊎_elim}
+use Rattle.std.proofs.Common.{not, sym, ap, ◌∙◌, ⊎_elim}
 use Rattle.std.proofs.lemmas.Bool.{true≢false, cases_Bool}
-use Rattle.vf_model.specs.Runs.{can_step}
 use Rattle.vf_core.specs.Shown.{program_of}
 use Rattle.vf_engine.specs.States.{state_of}
 use Rattle.vf_run.proofs.Steppers.{steps_by, waits_by}

@@ -1,9 +1,7 @@
-use Rattle.std.proofs.Common.{◌≡◌, Some, None, Ok, inl, refl, sym, ap, ◌∙◌}
+use Rattle.std.proofs.Common.{◌≡◌, Some, None, Ok, inl, sym, ap, ◌∙◌}
 use Rattle.std.specs.Option.{option_copied}
-use Rattle.vf_model.specs.Acts.{Waits}
-use Rattle.vf_model.specs.Steps.{next_act}
 use Rattle.vf_core.specs.Shown.{program_of}
-use Rattle.vf_engine.specs.States.{state_of, turn_of, callers_of}
+use Rattle.vf_engine.specs.States.{turn_of, callers_of}
 use Rattle.vf_engine.specs.Effects.{act_of_result}
 use Rattle.vf_engine.specs.declared.effect.Effect.TheVariants as effects
 use Rattle.vf_run.specs.Acting.{top_frame}

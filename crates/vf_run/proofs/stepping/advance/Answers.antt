@@ -1,11 +1,9 @@
-use Rattle.std.proofs.Common.{◌≡◌, ◌<◌, length, Some, None, Ok, true, false, sym, ap, subst, ◌∙◌, ⊎_elim}
-use Rattle.std.proofs.lemmas.Bool.{true≢false, false≢true}
+use Rattle.std.proofs.Common.{Ok, sym, subst, ◌∙◌}
 use Rattle.std.proofs.lemmas.Option.{slice_get_within}
-use Rattle.vf_model.specs.declared.words.Event.{Event}
 use Rattle.vf_model.specs.Runs.{after}
 use Rattle.vf_core.specs.Shown.{program_of}
 use Rattle.vf_engine.specs.States.{state_of}
-use Rattle.vf_run.specs.Counts.{HasCounts, first_passed}
+use Rattle.vf_run.specs.Counts.{HasCounts}
 use Rattle.vf_run.proofs.Steppers.{after_found, none_is_none}
 use Rattle.vf_run.proofs.stepping.advance.Goals as goal
 
