@@ -1,0 +1,23 @@
+//! The machine that runs whole programs under a schedule, one core step at a time.
+//!
+//! Contracts see a [`Machine`] as its program's tree and the state that it is in, and say that `start`
+//! gives the opening state, that `step` is one event, and that `outcome` and `output` are those of the
+//! state. So after any list of events that needs no more than the machine's limits, the machine stands
+//! where the definitions of `vf_model` lead.
+#![tactic(auto)]
+
+mod acting;
+mod changes;
+mod counts;
+mod machine;
+mod opening;
+mod stepping;
+#[cfg(test)]
+mod tests;
+
+pub use acting::next_effect;
+pub use counts::Counts;
+pub use machine::Machine;
+pub use vf_core::{Program, Unit, assemble_unit};
+pub use vf_engine::{Limit, StepFault, Stepped};
+pub use vf_model::{Event, FaultKind, Outcome};
