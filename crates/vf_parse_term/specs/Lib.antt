@@ -1,0 +1,4 @@
+pub mod Pieces
+pub mod Sorts
+pub mod Terms
+pub mod Laws
