@@ -76,8 +76,8 @@ fn no_value(rt: HostRuntime) -> Result<(), Fail> {
         alloc: rt.alloc(),
         left: tokens.as_slice(),
     };
-    let name = declared(&mut cursor).ok().ok_or("declared")?.1;
-    assert_eq!(rt; name.text.as_bytes(), b"x");
+    let (_, name) = declared(&mut cursor).ok().ok_or("declared")?;
+    assert_eq!(rt; name.text.as_bytes(), b"x".as_slice());
     let value = optional_value(&mut cursor, 9).ok().ok_or("value")?;
     assert!(rt; value.is_none());
     Ok(())
