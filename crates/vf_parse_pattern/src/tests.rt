@@ -25,10 +25,13 @@ fn read(cursor: &mut Cursor, what: What) -> Result<usize, Stop> {
             let patterns = pattern_list(cursor, 2)?;
             Ok(patterns.into_sequence()?.len())
         }
-        What::Case => match case_pattern(cursor)?.names {
-            None => Ok(0),
-            Some(names) => Ok(names.len()),
-        },
+        What::Case => {
+            let pattern = case_pattern(cursor)?;
+            match &pattern.names {
+                None => Ok(0),
+                Some(names) => Ok(names.len()),
+            }
+        }
     }
 }
 
