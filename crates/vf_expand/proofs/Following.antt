@@ -1,19 +1,15 @@
 -- What a line is, and what it leaves of its file.
-use Rattle.std.proofs.Common.{◌≡◌, ◌≤◌, ℕ, ◌+◌, ◌-◌, Bool, true, List, [], ◌∷◌, length, take, drop, Option, Some, None, Result, Ok, Err, refl, sym, ap, subst, ◌∙◌, arith}
-use Rattle.std.specs.List.{list_all}
-use Rattle.vf_base.specs.declared.place.Place.{Place}
+use Rattle.std.proofs.Common.{◌≡◌, ℕ, ◌-◌, Bool, List, ◌∷◌, length, take, drop, Some, None, Ok, Err, sym, ap, subst, ◌∙◌}
 use Rattle.vf_lexer.specs.declared.token.Token.{Token}
 use Rattle.vf_preproc.specs.declared.fault.ExpandFault.{ExpandFault}
-use Rattle.vf_preproc.specs.declared.steps.Step.{Step}
 use Rattle.vf_preproc.specs.declared.steps.Step.TheVariants as steps
-use Rattle.vf_preproc.specs.Directives.{Fault, ◌>>=◌, lines_of}
-use Rattle.vf_preproc.specs.Answers.{Fails, Gives}
-use Rattle.vf_preproc.specs.Targets.{target, is_ascii}
+use Rattle.vf_preproc.specs.Directives.{◌>>=◌, lines_of}
+use Rattle.vf_preproc.specs.Answers.{Fails}
+use Rattle.vf_preproc.specs.Targets.{target}
 use Rattle.vf_preproc.specs.LineSteps.{line_included, StepGives}
-use Rattle.vf_preproc.specs.UnitText.{File, Includer, Unit_so_far, Header, Scope, line, included, with_header}
-use Rattle.vf_preproc.proofs.Grouping.{first_and_rest}
+use Rattle.vf_preproc.specs.UnitText.{File, Includer, Unit_so_far, Scope, line, with_header}
 use Rattle.vf_expand.specs.declared.frames.Include.{Include}
-use Rattle.vf_expand.specs.Walks.{Going, going_text}
+use Rattle.vf_expand.specs.Walks.{going_text}
 use Rattle.vf_expand.specs.Steps.{line_with, include_text, WantedGives, FirstGives}
 use Rattle.vf_expand.proofs.Paths.{path_ascii}
 use Rattle.vf_expand.proofs.Walking.{fails_then, line_done, line_include, line_fails}

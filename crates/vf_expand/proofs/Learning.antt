@@ -1,22 +1,22 @@
 -- What is known of paths as more becomes known.
-use Rattle.std.proofs.Common.{◌≡◌, ◌≤◌, ℕ, ◌+◌, ◌-◌, zero, suc, min, refl, sym, ap, subst, ◌∙◌, cond, Bool, true, false, List, [], ◌∷◌, ◌++◌, length, map, take, drop, slice_get, Option, Some, None, Result, Ok, Err, IfOk, IsErrOf, option_map, inl, inr, ◌⊎◌, arith, length-append}
+use Rattle.std.proofs.Common.{◌≡◌, ◌≤◌, ℕ, ◌+◌, zero, suc, refl, sym, ap, subst, ◌∙◌, cond, Bool, true, false, List, [], ◌∷◌, ◌++◌, length, slice_get, Option, Some, None, Result, Ok, Err, option_map, inl, inr, ◌⊎◌, arith}
 use Rattle.std.specs.List.{position_from}
 use Rattle.std.specs.Str.{bytes_eq}
 use Rattle.std.specs.Cmp.Lexicographic.{bytes_decides}
-use Rattle.std.proofs.lemmas.Option.{slice_get-map, slice_get_within}
+use Rattle.std.proofs.lemmas.Option.{slice_get-map}
 use Rattle.std.proofs.lemmas.List.{map-append, append-nil}
-use Rattle.vf_base.specs.Outside.{Contents, Rose, next_count, last_count}
+use Rattle.vf_base.specs.Outside.{Rose}
 use Rattle.vf_names.specs.Names.{number_of}
 use Rattle.vf_names.proofs.Numbering.{missed-push, name_there}
 use Rattle.vf_snapshot.specs.declared.held.Held.{Held}
 use Rattle.vf_snapshot.specs.declared.held.Held.TheVariants as known
 use Rattle.vf_snapshot.specs.declared.held.SnapFault.{SnapFault}
 use Rattle.vf_snapshot.specs.declared.held.SnapFault.TheVariants as faults
-use Rattle.vf_snapshot.specs.Holdings.{Holdings, Grows, IsHeldAt, IsKnown, Learns, answer, number_in, paths}
+use Rattle.vf_snapshot.specs.Holdings.{Holdings, Grows, IsHeldAt, Learns, answer, number_in, paths}
 use Rattle.vf_snapshot.proofs.Knowing.{last_there}
 use Rattle.vf_preproc.specs.UnitText.{Library}
 use Rattle.vf_preproc.specs.Units.{Tells}
-use Rattle.vf_expand.specs.Worlds.{World, world, prelude_text, IsToldBy, AllTold, AbsencesShow, Reads}
+use Rattle.vf_expand.specs.Worlds.{World, prelude_text, IsToldBy, AllTold, Reads}
 
 -- what is found at a place is found there with more behind
 found-more : {A : Type 0} (t : A → Bool) (i : ℕ) (xs more : List A) (n : ℕ) → position_from t i xs ≡ Some n → position_from t i (xs ++ more) ≡ Some n

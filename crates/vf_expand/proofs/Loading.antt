@@ -1,8 +1,6 @@
 -- What a library tells of a file that was read.
-use Rattle.std.proofs.Common.{◌≡◌, ℕ, ◌<◌, ◌≤◌, refl, sym, ap, subst, ◌∙◌, Bool, List, length, Some, None, slice_get, Result, Ok, Err, inl, inr, ◌⊎◌, option_map, IfOk}
+use Rattle.std.proofs.Common.{◌≡◌, ℕ, ◌≤◌, refl, sym, ap, subst, ◌∙◌, Bool, List, length, Some, slice_get, Result, Ok, Err, inl, inr, option_map, IfOk}
 use Rattle.vf_base.specs.declared.place.Place.{Place}
-use Rattle.vf_base.specs.declared.rule.Rule.TheVariants as rules_of
-use Rattle.vf_base.specs.declared.refusal.Shown.TheVariants as shown
 use Rattle.vf_snapshot.specs.declared.held.Held.{Held}
 use Rattle.vf_snapshot.specs.declared.held.Held.TheVariants as known
 use Rattle.vf_snapshot.specs.declared.held.SnapFault.{SnapFault}

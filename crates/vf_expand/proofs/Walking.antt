@@ -1,6 +1,5 @@
 -- How each step of the walk keeps what is made of the unit in the end.
-use Rattle.std.proofs.Common.{◌≡◌, ◌<◌, ◌≤◌, ◌-◌, ◌+◌, ℕ, zero, suc, Bool, List, [], ◌∷◌, ◌++◌, length, map, reverse, Option, Some, None, Result, Ok, Err, slice_get, IfOk, IfErr, arith, refl, sym, ap, subst, ◌∙◌}
-use Rattle.vf_base.specs.declared.place.Place.{Place}
+use Rattle.std.proofs.Common.{◌≡◌, ◌<◌, ◌≤◌, ◌-◌, ℕ, suc, List, [], ◌∷◌, ◌++◌, length, map, reverse, Some, None, Result, Ok, Err, slice_get, IfOk, IfErr, arith, refl, sym, ap, subst, ◌∙◌}
 use Rattle.vf_names.specs.Names.{number_of}
 use Rattle.vf_lexer.specs.declared.token.Token.{Token}
 use Rattle.vf_preproc.specs.declared.fault.ExpandFault.{ExpandFault}

@@ -1,17 +1,17 @@
 -- The whole unit from its walk.
-use Rattle.std.proofs.Common.{◌≡◌, List, [], ℕ, Result, Ok, Err, refl, sym, ap, subst, ◌∙◌}
+use Rattle.std.proofs.Common.{◌≡◌, List, [], ℕ, Result, Ok, Err, sym, ap, subst, ◌∙◌}
 use Rattle.vf_preproc.specs.declared.fault.ExpandFault.{ExpandFault}
 use Rattle.vf_preproc.specs.declared.fault.ExpandFault.TheVariants as faults
 use Rattle.vf_preproc.specs.declared.sources.Loaded.{Loaded}
 use Rattle.vf_preproc.specs.Directives.{Fault, ◌>>=◌}
 use Rattle.vf_preproc.specs.Answers.{Gives}
-use Rattle.vf_preproc.specs.UnitText.{Library, Text_of_unit, begun}
+use Rattle.vf_preproc.specs.UnitText.{Library, Text_of_unit}
 use Rattle.vf_preproc.specs.Units.{unit_of}
 use Rattle.vf_expand.specs.declared.state.Walk.{Walk}
 use Rattle.vf_expand.specs.declared.whole.UnitTokens.{UnitTokens}
-use Rattle.vf_expand.specs.Walks.{text_from, walk_text, pauses_of, going_of}
+use Rattle.vf_expand.specs.Walks.{text_from, walk_text, going_of}
 use Rattle.vf_expand.specs.Steps.{Faults}
-use Rattle.vf_expand.specs.Wholes.{no_unit, end_of, counted, text_of_file, text_of, NamedGives, FileGives, UnitGives, Starts}
+use Rattle.vf_expand.specs.Wholes.{end_of, counted, text_of_file, text_of, NamedGives, FileGives, UnitGives, Starts}
 use Rattle.vf_expand.proofs.Walking.{going_at_first, fails_faults}
 
 -- the text of a unit is what its walk gives, with its tokens counted

@@ -1,4 +1,5 @@
 pub mod Worlds
 pub mod Walks
+pub mod Weights
 pub mod Steps
 pub mod Wholes

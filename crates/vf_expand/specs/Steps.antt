@@ -21,7 +21,7 @@ use Rattle.vf_expand.specs.declared.frames.Include.{Include}
 use Rattle.vf_expand.specs.declared.state.Walk.{Walk}
 use Rattle.vf_expand.specs.declared.state.Next.{Next}
 use Rattle.vf_expand.specs.declared.state.Next.TheVariants as nexts
-use Rattle.vf_expand.specs.Walks.{Going, Pause, going_text, after_header, resumed, walk_text, pauses_of, going_of}
+use Rattle.vf_expand.specs.Walks.{Going, going_text, after_header, resumed, walk_text, pauses_of, going_of}
 
 -- what an include makes of a unit and the file in which it stands
 abbrev pub line_with : Includer → Include → Unit_so_far → Scope → Result (Unit_so_far × Scope) Fault

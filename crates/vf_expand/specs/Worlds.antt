@@ -1,5 +1,5 @@
 -- Files, and what a snapshot knows of them.
-use Rattle.std.specs.Prelude.{◌≡◌, ◌≤◌, ℕ, List, Option, Some, None, length, take, drop, ◌-◌, if◌then◌else◌}
+use Rattle.std.specs.Prelude.{◌≡◌, ◌≤◌, ℕ, List, Option, Some, None, if◌then◌else◌}
 use Rattle.std.specs.Str.{bytes_eq}
 use Rattle.vf_base.specs.Outside.{Contents, Rose}
 use Rattle.vf_snapshot.specs.declared.held.Held.{Held}

@@ -1,6 +1,6 @@
 //! Files whose lines are being followed.
 
-ghost use Rattle.std.specs.Prelude.{◌≡◌, [], ◌≤◌, ◌<◌, length, IfOk, OnOk};
+ghost use Rattle.std.specs.Prelude.{◌≡◌, [], ◌≤◌, ◌<◌, ◌^◌, length, IfOk, OnOk};
 ghost use Rattle.vf_preproc.specs.Directives.{lines_of};
 ghost use Rattle.vf_preproc.specs.Macros.{no_macros};
 ghost use Rattle.vf_preproc.specs.UnitText.{names_in};
@@ -8,6 +8,7 @@ ghost use Rattle.vf_preproc.specs.LineSteps.{file_of};
 ghost use Rattle.vf_preproc.specs.Scopes.{scope_of};
 ghost use Rattle.vf_preproc.specs.Units.{unit_of};
 ghost use Rattle.vf_expand.specs.Walks.{going_of};
+ghost use Rattle.vf_expand.specs.Weights.{left_of, LineFalls};
 ghost use Rattle.vf_expand.specs.Steps.{LineGives, FirstGives, WantedGives};
 
 use std::alloc::Global;
@@ -63,12 +64,14 @@ pub enum Line {
 
 /// The beginning of a file.
 pub fn open_file(alloc: Global, path: Text, file: Loaded) -> Result<Open, Memory>
-    ensures { IfOk result (λ o. going_of o ≡ record {
+    ensures left { IfOk result (λ o. left_of o < 2 ^ 64) }
+    ensures going { IfOk result (λ o. going_of o ≡ record {
       file = record { path = path; bytes = file.bytes };
       lines = lines_of file.tokens;
       scope = record { macros = no_macros; groups = []; names = names_in file.tokens };
     }) }
 {
+    let _size = file.tokens.len();
     let scope = opened(alloc, file.tokens.as_slice())?;
     Ok(Open {
         path,
@@ -130,6 +133,7 @@ fn follow_first(
 pub fn follow_next(unit: &mut Unit, current: &mut Open) -> Result<Line, ExpandFault>
     requires { length unit.old.tokens ≤ 200001 }
     ensures exact { LineGives (going_of current.old) (unit_of unit.old) (going_of current.new) (unit_of unit.new) result }
+    ensures falls { IfOk result (LineFalls (left_of current.old) (left_of current.new)) }
     ensures few { OnOk result (length unit.new.tokens ≤ 200001) }
 {
     if current.at >= current.tokens.len() {

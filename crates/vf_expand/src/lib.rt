@@ -5,11 +5,13 @@
 #![tactic(auto)]
 
 mod frames;
+mod laws;
 mod sources;
 mod state;
 mod steps;
 mod whole;
 
+pub use laws::snapshots_are_told;
 pub use whole::{UnitTokens, expand};
 
 #[cfg(test)]

@@ -11,6 +11,7 @@ ghost use Rattle.vf_preproc.specs.UnitText.{Library, completed};
 ghost use Rattle.vf_preproc.specs.Units.{unit_of, Tells};
 ghost use Rattle.vf_expand.specs.Worlds.{world, Reads};
 ghost use Rattle.vf_expand.specs.Walks.{pause_of, pauses_of, going_of, walk_text, resumed};
+ghost use Rattle.vf_expand.specs.Weights.{left_of, lefts_of, weight, weight_of, weight_before, NextFalls};
 ghost use Rattle.vf_expand.specs.Steps.{old_text, walk_include_text, WalkGives, NextGives, EndGives, FewNext, Begins, IsOwn};
 
 use crate::frames::{Include, Line, Waiting, follow_next, open_file};
@@ -23,12 +24,10 @@ use vf_snapshot::Snapshot;
 /// How many includes may stand within one another.
 const MOST_DEPTH: usize = 32;
 
-/// How many steps a walk may take, of which there are never so many.
-const MOST_STEPS: u64 = 18_446_744_073_709_551_615;
-
 /// Puts a file to those that wait.
 fn wait(stack: &mut Vec<Waiting>, file: Waiting) -> Result<(), Memory>
     ensures pauses { OnOk result (pauses_of stack.new.items ≡ pause_of file ∷ pauses_of stack.old.items) }
+    ensures lefts { OnOk result (lefts_of stack.new.items ≡ left_of file.file ∷ lefts_of stack.old.items) }
 {
     stack.push(file)?;
     Ok(())
@@ -36,7 +35,8 @@ fn wait(stack: &mut Vec<Waiting>, file: Waiting) -> Result<(), Memory>
 
 /// Takes the innermost of the files that wait.
 fn wake(stack: &mut Vec<Waiting>) -> Option<Waiting>
-    ensures { MatchOption result (pauses_of stack.old.items ≡ []) (λ file. pauses_of stack.old.items ≡ pause_of file ∷ pauses_of stack.new.items) }
+    ensures pauses { MatchOption result (pauses_of stack.old.items ≡ []) (λ file. pauses_of stack.old.items ≡ pause_of file ∷ pauses_of stack.new.items) }
+    ensures lefts { MatchOption result (stack.new.items ≡ stack.old.items) (λ file. lefts_of stack.old.items ≡ left_of file.file ∷ lefts_of stack.new.items) }
 {
     stack.pop()
 }
@@ -70,6 +70,7 @@ fn include_new<F: Files>(
     requires new { number_of walk.unit.paths include.path ≡ None }
     ensures exact { (library : Library) → Tells library snapshot.new → WalkGives (walk_include_text library include walk) library result }
     ensures few { IfOk result (λ w. length w.unit.tokens ≤ 200001) }
+    ensures falls { IfOk result (λ w. weight w < weight_before walk) }
     ensures there { IsErrOf result ExpandFault.Missing → ⊥ }
     ensures read_fault { IsErrOf result ExpandFault.ReadFault → Rose (F.failures files.old) (F.failures files.new) }
     ensures reads { Reads
@@ -86,6 +87,7 @@ fn begin(walk: Walk, include: Include, loaded: Loaded) -> Result<Walk, ExpandFau
     requires few { length walk.unit.tokens ≤ 200001 }
     requires new { number_of walk.unit.paths include.path ≡ None }
     ensures begun { IfOk result (λ w. Begins walk include loaded w) }
+    ensures falls { length walk.stack.items < 32 → IfOk result (λ w. weight w < weight_before walk) }
     ensures few { IfOk result (λ w. length w.unit.tokens ≤ 200001) }
     ensures memory { IfErr result (λ e. e ≡ ExpandFault.Memory) }
 {
@@ -121,6 +123,7 @@ fn include<F: Files>(
     requires path { IsTrue (list_all is_ascii include.path) }
     ensures exact { (library : Library) → Tells library snapshot.new → WalkGives (walk_include_text library include walk) library result }
     ensures few { IfOk result (λ w. length w.unit.tokens ≤ 200001) }
+    ensures falls { IfOk result (λ w. weight w < weight_before walk) }
     ensures there { IsErrOf result ExpandFault.Missing → ⊥ }
     ensures read_fault { IsErrOf result ExpandFault.ReadFault → Rose (F.failures files.old) (F.failures files.new) }
     ensures reads { Reads
@@ -144,6 +147,7 @@ fn include_old(walk: Walk, include: Include, number: usize) -> Result<Walk, Expa
     ensures exact { (library : Library) → WalkGives (walk_include_text library include walk) library result }
     ensures own { IfErr result IsOwn }
     ensures few { IfOk result (λ w. length w.unit.tokens ≤ 200001) }
+    ensures falls { IfOk result (λ w. weight w < weight_before walk) }
 {
     let Walk {
         unit,
@@ -185,6 +189,7 @@ fn resume(
     ensures exact { (library : Library) → WalkGives (resumed library (pause_of waiting ∷ pauses_of stack.items) (Ok (unit_of unit, header_of header))) library result }
     ensures own { IfErr result IsOwn }
     ensures few { IfOk result (λ w. length w.unit.tokens ≤ 200001) }
+    ensures weighs { IfOk result (λ w. weight w ≡ weight_of (left_of waiting.file ∷ lefts_of stack.items)) }
 {
     let mut unit = unit;
     let Waiting {
@@ -209,6 +214,7 @@ fn end(walk: Walk) -> Result<Next, ExpandFault>
     ensures exact { (library : Library) → NextGives (walk_text library walk) library result }
     ensures own { IfErr result IsOwn }
     ensures few { IfOk result FewNext }
+    ensures falls { IfOk result (NextFalls (weight walk)) }
 {
     let Walk {
         unit,
@@ -230,6 +236,7 @@ fn go_on<F: Files>(walk: Walk, snapshot: &mut Snapshot, files: &mut F) -> Result
     requires few { length walk.unit.tokens ≤ 200001 }
     ensures exact { (library : Library) → Tells library snapshot.new → NextGives (walk_text library walk) library result }
     ensures few { IfOk result FewNext }
+    ensures falls { IfOk result (NextFalls (weight walk)) }
     ensures there { IsErrOf result ExpandFault.Missing → ⊥ }
     ensures read_fault { IsErrOf result ExpandFault.ReadFault → Rose (F.failures files.old) (F.failures files.new) }
     ensures reads { Reads
@@ -263,11 +270,10 @@ pub fn walk_on<F: Files>(
         (world snapshot.new (F.contents files.new) (F.failures files.new) (F.absences files.new) (F.put_failures files.new)) }
 {
     let mut state = walk;
-    'steps: for _ in 0..MOST_STEPS {
+    'steps: loop {
         match go_on(state, snapshot, files)? {
             Next::Goes(next) => state = next,
             Next::Ends(unit) => return Ok(unit),
         }
     }
-    Err(ExpandFault::Memory)
 }

@@ -65,60 +65,62 @@ fn check_refused(
 }
 
 /// Texts of files, the tokens of their unit, and how many headers it has.
+const UNITS: [(&str, &str, &str, &str, usize); 8] = [
+    ("#include \"a.h\"\nx\n", "y", "", "y x ", 1),
+    (
+        "#include \"a.h\"\n#include \"a.h\"\nA",
+        "#define A 1\ny",
+        "",
+        "y 1 ",
+        1,
+    ),
+    (
+        "#include \"a.h\"\nx",
+        "#ifndef A\n#define A\n#include \"d/b.h\"\ny\n#endif",
+        "z",
+        "z y x ",
+        2,
+    ),
+    (
+        "#include \"d/b.h\"\nx",
+        "y",
+        "#include \"../a.h\"\nz",
+        "y z x ",
+        2,
+    ),
+    (
+        "//@ #include \"g.gh\"\nx G",
+        "",
+        "#define G 1\nlemma G;",
+        "lemma 1 ; x G ",
+        1,
+    ),
+    (
+        "#include \"a.h\"\nA",
+        "#define A A B\n#define B A",
+        "",
+        "A A ",
+        1,
+    ),
+    (
+        "#include \"a.h\"\n#define A 1\nA",
+        "#define A 1",
+        "",
+        "1 ",
+        1,
+    ),
+    (
+        "#include <stddef.h>\n#include \"stddef.h\"\nNULL",
+        "",
+        "",
+        "0 ",
+        1,
+    ),
+];
+
 #[test]
 fn units(rt: HostRuntime) -> Result<(), Fail> {
-    for (main, first, second, wanted, headers) in [
-        ("#include \"a.h\"\nx\n", "y", "", "y x ", 1),
-        (
-            "#include \"a.h\"\n#include \"a.h\"\nA",
-            "#define A 1\ny",
-            "",
-            "y 1 ",
-            1,
-        ),
-        (
-            "#include \"a.h\"\nx",
-            "#ifndef A\n#define A\n#include \"d/b.h\"\ny\n#endif",
-            "z",
-            "z y x ",
-            2,
-        ),
-        (
-            "#include \"d/b.h\"\nx",
-            "y",
-            "#include \"../a.h\"\nz",
-            "y z x ",
-            2,
-        ),
-        (
-            "//@ #include \"g.gh\"\nx G",
-            "",
-            "#define G 1\nlemma G;",
-            "lemma 1 ; x G ",
-            1,
-        ),
-        (
-            "#include \"a.h\"\nA",
-            "#define A A B\n#define B A",
-            "",
-            "A A ",
-            1,
-        ),
-        (
-            "#include \"a.h\"\n#define A 1\nA",
-            "#define A 1",
-            "",
-            "1 ",
-            1,
-        ),
-        (
-            "#include <stddef.h>\n#include \"stddef.h\"\nNULL",
-            "",
-            "",
-            "0 ",
-            1,
-        ),
-    ] {
+    for (main, first, second, wanted, headers) in UNITS {
         let mut files = files_of(rt.alloc(), main, first, second)?;
         check_unit(&rt, rt.alloc(), &mut files, wanted, headers)?;
     }
@@ -126,50 +128,52 @@ fn units(rt: HostRuntime) -> Result<(), Fail> {
 }
 
 /// Texts of files, and the rule and the place of the refusal of their unit.
+const REFUSALS: [(&str, &str, &str, Rule, u32, u32, u32); 8] = [
+    ("#include \"a.h\"", "x\n$", "", Rule::Lex, 1, 2, 1),
+    ("x\n #include \"no.h\"", "", "", Rule::Include, 0, 2, 2),
+    ("#include <a.h>", "", "", Rule::Include, 0, 1, 1),
+    (
+        "#include \"a.h\"",
+        "#include \"d/b.h\"",
+        "x\n #include \"../a.h\"",
+        Rule::Include,
+        2,
+        2,
+        2,
+    ),
+    ("#include \"g.gh\"", "", "", Rule::Directive, 0, 1, 1),
+    (
+        "#include \"a.h\"\n#define A 2",
+        "#define A 1",
+        "",
+        Rule::Directive,
+        0,
+        2,
+        9,
+    ),
+    (
+        "#define A 2\n#include \"a.h\"",
+        "x A",
+        "",
+        Rule::Directive,
+        0,
+        2,
+        1,
+    ),
+    (
+        "#include \"a.h\"",
+        "\n#ifdef A\n#ifdef B",
+        "",
+        Rule::Directive,
+        1,
+        2,
+        1,
+    ),
+];
+
 #[test]
 fn refusals(rt: HostRuntime) -> Result<(), Fail> {
-    for (main, first, second, rule, file, line, column) in [
-        ("#include \"a.h\"", "x\n$", "", Rule::Lex, 1, 2, 1),
-        ("x\n #include \"no.h\"", "", "", Rule::Include, 0, 2, 2),
-        ("#include <a.h>", "", "", Rule::Include, 0, 1, 1),
-        (
-            "#include \"a.h\"",
-            "#include \"d/b.h\"",
-            "x\n #include \"../a.h\"",
-            Rule::Include,
-            2,
-            2,
-            2,
-        ),
-        ("#include \"g.gh\"", "", "", Rule::Directive, 0, 1, 1),
-        (
-            "#include \"a.h\"\n#define A 2",
-            "#define A 1",
-            "",
-            Rule::Directive,
-            0,
-            2,
-            9,
-        ),
-        (
-            "#define A 2\n#include \"a.h\"",
-            "x A",
-            "",
-            Rule::Directive,
-            0,
-            2,
-            1,
-        ),
-        (
-            "#include \"a.h\"",
-            "\n#ifdef A\n#ifdef B",
-            "",
-            Rule::Directive,
-            1,
-            2,
-            1,
-        ),
-    ] {
+    for (main, first, second, rule, file, line, column) in REFUSALS {
         let mut files = files_of(rt.alloc(), main, first, second)?;
         let place = Place { file, line, column };
         check_refused(&rt, rt.alloc(), &mut files, rule, place);
@@ -227,10 +231,20 @@ fn depths(rt: HostRuntime) -> Result<(), Fail> {
     Ok(())
 }
 
+/// So many blanks.
+fn blanks(alloc: Global, size: usize) -> Result<Vec<u8>, Fail> {
+    let text = vec![in alloc; 32; size]?;
+    Ok(text)
+}
+
+/// A file may have 1,048,576 bytes.
 #[test]
 fn sizes(rt: HostRuntime) -> Result<(), Fail> {
     let mut files = files_of(rt.alloc(), "#include \"a.h\"\nx", "", "")?;
-    let text = vec![in rt.alloc(); 32; 1_048_577]?;
+    let text = blanks(rt.alloc(), 1_048_576)?;
+    files.set("a.h", &text)?;
+    check_unit(&rt, rt.alloc(), &mut files, "x ", 1)?;
+    let text = blanks(rt.alloc(), 1_048_577)?;
     files.set("a.h", &text)?;
     let place = Place {
         file: 1,

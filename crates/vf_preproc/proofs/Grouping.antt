@@ -1,5 +1,5 @@
 -- What a fault of a part is for the whole.
-use Rattle.std.proofs.Common.{◌≡◌, ◌≤◌, ◌-◌, ℕ, Bool, List, [], ◌∷◌, length, take, drop, get_or, Result, Ok, Err, arith, sym, ap, subst, ◌∙◌}
+use Rattle.std.proofs.Common.{◌≡◌, ◌≤◌, ◌-◌, Bool, List, [], ◌∷◌, length, take, drop, get_or, Result, Ok, Err, arith, sym, ap, subst, ◌∙◌}
 use Rattle.std.proofs.lemmas.List.{take_all}
 use Rattle.vf_lexer.specs.declared.token.Token.{Token}
 use Rattle.vf_preproc.specs.declared.steps.Step.{Step}

@@ -1,5 +1,5 @@
 -- How the macros of a header join those of its includer one by one.
-use Rattle.std.proofs.Common.{◌≡◌, ℕ, zero, suc, ◌+◌, ◌<◌, arith, refl, sym, ap, ◌∙◌, List, [], ◌∷◌, drop, length, get_or, slice_get, Option, Some, None, Result, Ok, Err, add-one}
+use Rattle.std.proofs.Common.{◌≡◌, ℕ, zero, suc, ◌+◌, arith, refl, ap, List, [], ◌∷◌, drop, slice_get, Some, None, Result, Ok}
 use Rattle.vf_base.specs.declared.place.Place.{Place}
 use Rattle.vf_lexer.specs.declared.token.Token.{Token}
 use Rattle.vf_preproc.specs.declared.fault.ExpandFault.{ExpandFault}

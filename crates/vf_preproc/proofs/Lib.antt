@@ -1,4 +1,5 @@
 pub mod Replacing
+pub mod Uncut
 pub mod Lines
 pub mod Targeting
 pub mod Joining

@@ -1,17 +1,16 @@
 -- How the replacement of macros goes on token by token.
-use Rattle.std.proofs.Common.{◌≡◌, ℕ, zero, suc, ◌+◌, ◌-◌, ◌<◌, ◌≤◌, arith, refl, sym, ap, subst, ◌∙◌, Bool, true, false, List, [], ◌∷◌, ◌++◌, append_assoc, length, map, take, drop, Result, Ok, Err, OnOk, get_or, reverse, Option, Some, None, slice_get, unwrap_or, inl, inr, ◌⊎◌, nat_eq, add-one, length-append, option_map, ◌||◌}
-use Rattle.std.specs.List.{list_any, flat_map}
-use Rattle.std.proofs.lemmas.List.{append-nil, reverse-append, map-append, length-reverse, length-take, take_at, take_all, take-append-le}
+use Rattle.std.proofs.Common.{◌≡◌, ℕ, zero, suc, ◌+◌, ◌-◌, ◌<◌, ◌≤◌, arith, refl, sym, ap, subst, ◌∙◌, Bool, true, false, List, [], ◌∷◌, ◌++◌, append_assoc, length, map, take, drop, Result, Ok, Err, OnOk, get_or, reverse, Option, Some, None, slice_get, inl, inr, ◌⊎◌, nat_eq, add-one, length-append, cond}
+use Rattle.std.specs.List.{list_any}
+use Rattle.std.proofs.lemmas.List.{append-nil, reverse-append, length-reverse, length-take, take_at, take_all, take-append-le}
 use Rattle.std.proofs.lemmas.Grind.{flat_map-append}
 use Rattle.std.proofs.Math.Dec.{leb}
-use Rattle.std.proofs.lemmas.List.Folds.{list_any-append}
-use Rattle.std.proofs.lemmas.Map.Keys.{any_passes_from_place}
-use Rattle.std.proofs.lemmas.Option.{slice_get-map, slice_get_within, get_or_from_slice_get}
-use Rattle.std.proofs.lemmas.Bool.{eq-eqb, leb-true, leb-false}
+use Rattle.std.proofs.lemmas.Option.{slice_get_within, get_or_from_slice_get}
+use Rattle.std.proofs.lemmas.Bool.{leb-true, leb-false}
 use Rattle.std.proofs.Math.Seq.{drop-cons, take-suc}
 use Rattle.vf_lexer.specs.declared.token.Token.{Token}
-use Rattle.vf_preproc.specs.declared.replace.Frame.{Frame}
-use Rattle.vf_preproc.specs.Macros.{Table, body, macro_at, in_place, replaced, at_use, expansion}
+use Rattle.vf_preproc.specs.declared.stack.Frame.{Frame}
+use Rattle.vf_names.specs.Names.{number_of}
+use Rattle.vf_preproc.specs.Macros.{Table, body, is_name, unless_among, macro_at, in_place, replaced, at_use, expansion}
 use Rattle.vf_preproc.specs.Frames.{numbers_of, rest_of, front, done, due, opened, Opens}
 
 -- tokens are replaced one after another
@@ -72,25 +71,25 @@ open_done table out stack new t number h (inr (f, same_number, start, tokens, pu
     ∙ ap (λ xs. xs ++ rest_of table t (reverse stack)) (sym (replaced-opened n table (numbers_of (reverse stack)) t number h)) in
     ap (λ xs. front (out ++ xs)) owed
 
-or_swap : (a b : Bool) → a || (b || false) ≡ b || a
-or_swap true true = refl
-or_swap true false = refl
-or_swap false true = refl
-or_swap false false = refl
+-- a macro that replaces a token is none of those that are being replaced
+unless_apart : (hidden : List ℕ) (o : Option ℕ) (number : ℕ) → unless_among hidden o ≡ Some number → list_any (nat_eq number) hidden ≡ false
+unless_apart hidden None number h = absurd cc
+unless_apart hidden (Some n) number h = by_test (list_any (nat_eq n) hidden) refl h
+  where
+    by_test : (b : Bool) → list_any (nat_eq n) hidden ≡ b → cond b None (Some n) ≡ Some number → list_any (nat_eq number) hidden ≡ false
+    by_test true is found = absurd cc
+    by_test false is found = let same : n ≡ number = cc in subst (λ k. list_any (nat_eq k) hidden ≡ false) same is
 
--- it does not matter in which order the frames are asked
-pub any-numbers-reverse : (number : ℕ) (stack : List Frame) → list_any (nat_eq number) (numbers_of (reverse stack)) ≡ list_any (nat_eq number) (numbers_of stack)
-any-numbers-reverse number [] = refl
-any-numbers-reverse number (f ∷ fs) =
-    ap (λ s. list_any (nat_eq number) (numbers_of s)) (reverse-append (f ∷ []) fs)
-    ∙ ap (list_any (nat_eq number)) (map-append (λ (x : Frame). x.number) (reverse fs) (f ∷ []))
-    ∙ list_any-append (nat_eq number) (numbers_of (reverse fs)) (f.number ∷ [])
-    ∙ or_swap (list_any (nat_eq number) (numbers_of (reverse fs))) (nat_eq number f.number)
-    ∙ ap (λ b. nat_eq number f.number || b) (any-numbers-reverse number fs)
+macro_apart : (table : Table) (hidden : List ℕ) (t : Token) (number : ℕ) → macro_at table hidden t ≡ Some number → list_any (nat_eq number) hidden ≡ false
+macro_apart table hidden t number h = by_name (is_name t) h
+  where
+    by_name : (b : Bool) → cond b (unless_among hidden (number_of table.names t.text)) None ≡ Some number → list_any (nat_eq number) hidden ≡ false
+    by_name true found = unless_apart hidden (number_of table.names t.text) number found
+    by_name false found = absurd cc
 
--- a frame with the number is among them
-pub any-there : (number : ℕ) (stack : List Frame) (i : ℕ) (f : Frame) → slice_get stack i ≡ Some f → f.number ≡ number → list_any (nat_eq number) (numbers_of stack) ≡ true
-any-there number stack i f at same = any_passes_from_place (nat_eq number) (numbers_of stack) i f.number (slice_get-map (λ (x : Frame). x.number) stack i ∙ ap (option_map (λ (x : Frame). x.number)) at) (eq-eqb number f.number (sym same))
+pub opened_apart : (n : ℕ) (table : Table) (hidden : List ℕ) (t : Token) (number : ℕ) → opened n table hidden t ≡ Some number → list_any (nat_eq number) hidden ≡ false
+opened_apart zero table hidden t number h = absurd cc
+opened_apart (suc n) table hidden t number h = macro_apart table hidden t number h
 
 -- behind the end nothing is left
 nothing_behind : (ts : List Token) (i : ℕ) → slice_get ts i ≡ None → drop i ts ≡ []

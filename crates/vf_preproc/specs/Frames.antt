@@ -1,7 +1,8 @@
 -- Macros that are being replaced, one within another.
-use Rattle.std.specs.Prelude.{◌≡◌, ℕ, zero, suc, Option, Some, None, slice_get, unwrap_or, ◌-◌, List, [], ◌∷◌, ◌++◌, length, map, take, drop, reverse, ◌⊎◌}
+use Rattle.std.specs.Prelude.{◌≡◌, ℕ, zero, suc, false, nat_eq, Option, None, ◌-◌, List, [], ◌∷◌, ◌++◌, length, map, take, drop, reverse, ◌⊎◌}
+use Rattle.std.specs.List.{list_any}
 use Rattle.vf_lexer.specs.declared.token.Token.{Token}
-use Rattle.vf_preproc.specs.declared.replace.Frame.{Frame}
+use Rattle.vf_preproc.specs.declared.stack.Frame.{Frame}
 use Rattle.vf_preproc.specs.Macros.{Table, replaced, at_use, macro_at, body}
 
 -- the numbers of the macros that are being replaced
@@ -33,3 +34,8 @@ due table stack t = replaced (length table.names - length stack) table (numbers_
 -- the tokens of a macro are begun, unless it has none
 abbrev pub Opens : Table → ℕ → List Frame → List Frame → Type 0
 Opens table number old new = ((body table number ≡ []) × (new ≡ old)) ⊎ ((f : Frame) × (f.number ≡ number) × (f.at ≡ 0) × (f.body.value ≡ body table number) × (new ≡ old ++ f ∷ []))
+
+-- a macro was the innermost of some, and is none of the others
+pub record Tops (f : Frame) (old new : List Frame) : Type 0 where
+  pub top : old ≡ new ++ f ∷ []
+  pub apart : list_any (nat_eq f.number) (numbers_of (reverse new)) ≡ false

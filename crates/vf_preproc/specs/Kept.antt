@@ -1,6 +1,5 @@
 -- What the code keeps, as the definitions see it.
-use Rattle.std.specs.Prelude.{List, map, ℕ}
-use Rattle.vf_lexer.specs.declared.token.Token.{Token}
+use Rattle.std.specs.Prelude.{map}
 use Rattle.vf_preproc.specs.declared.macros.Macros.{Macros}
 use Rattle.vf_preproc.specs.Macros.{Table}
 

@@ -1,6 +1,7 @@
 pub mod Macros
 pub mod Kept
 pub mod Frames
+pub mod Marks
 pub mod Directives
 pub mod Answers
 pub mod Targets

@@ -1,7 +1,6 @@
 -- Macros and their replacement (C11 6.10.3). There are none with parameters.
-use Rattle.std.specs.Prelude.{◌≡◌, ℕ, zero, suc, ◌==◌, Bool, true, false, not, ◌&&◌, nat_eq, List, [], ◌∷◌, ◌++◌, length, map, Option, Some, None, slice_get, unwrap_or, if◌then◌else◌}
+use Rattle.std.specs.Prelude.{ℕ, zero, suc, Bool, true, false, nat_eq, List, [], ◌∷◌, ◌++◌, length, map, Option, Some, None, slice_get, unwrap_or, if◌then◌else◌}
 use Rattle.std.specs.List.{list_any, flat_map}
-use Rattle.std.specs.Str.{bytes_eq}
 use Rattle.vf_names.specs.Names.{number_of}
 use Rattle.vf_lexer.specs.declared.token.Token.{Token}
 use Rattle.vf_lexer.specs.declared.token.Kind.{Kind}

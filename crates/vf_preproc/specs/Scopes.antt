@@ -1,5 +1,5 @@
 -- What is kept of files, as the definitions see it.
-use Rattle.std.specs.Prelude.{List, reverse}
+use Rattle.std.specs.Prelude.{reverse}
 use Rattle.vf_preproc.specs.declared.scope.Header.{Header as KeptHeader}
 use Rattle.vf_preproc.specs.declared.scope.Scope.{Scope as KeptScope}
 use Rattle.vf_preproc.specs.UnitText.{Header, Scope}

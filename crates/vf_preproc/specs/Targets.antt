@@ -1,5 +1,5 @@
 -- What an `#include` means.
-use Rattle.std.specs.Prelude.{◌≡◌, ℕ, ◌==◌, ◌-◌, Bool, true, false, not, ◌&&◌, ◌||◌, nat_eq, nat_le, nat_lt, List, [], ◌∷◌, ◌++◌, take, drop, length, Option, Some, None, is_some, Result, Ok, Err, codes, if◌then◌else◌}
+use Rattle.std.specs.Prelude.{ℕ, ◌==◌, ◌-◌, Bool, true, false, not, ◌&&◌, ◌||◌, nat_eq, nat_le, nat_lt, List, [], ◌∷◌, ◌++◌, take, drop, length, Option, Some, None, is_some, Result, Ok, codes, if◌then◌else◌}
 use Rattle.std.specs.List.{list_any, list_all, ends_with}
 use Rattle.std.specs.Str.{bytes_eq}
 use Rattle.vf_base.specs.declared.place.Place.{Place}

@@ -1,7 +1,6 @@
 -- Unit text: the tokens of a file, with those of each header at its first include (C11 5.1.1.2, 6.10).
-use Rattle.std.specs.Prelude.{◌≡◌, ℕ, zero, suc, ◌+◌, Bool, true, false, not, ◌&&◌, ◌||◌, nat_lt, List, [], ◌∷◌, ◌++◌, length, map, filter, fold, take, slice_get, slice_set, Option, Some, None, is_some, Result, Ok, Err, if◌then◌else◌}
+use Rattle.std.specs.Prelude.{ℕ, zero, suc, Bool, true, false, not, ◌&&◌, ◌||◌, List, [], ◌∷◌, ◌++◌, length, map, filter, fold, slice_get, slice_set, Option, Some, None, is_some, Result, Ok, Err, if◌then◌else◌}
 use Rattle.std.specs.List.{list_any}
-use Rattle.std.specs.Str.{bytes_eq}
 use Rattle.vf_base.specs.declared.place.Place.{Place}
 use Rattle.vf_base.specs.declared.rule.Rule.TheVariants as rules_of
 use Rattle.vf_lexer.specs.declared.token.Token.{Token}
@@ -13,7 +12,7 @@ use Rattle.vf_preproc.specs.declared.sources.Loaded.{Loaded}
 use Rattle.vf_preproc.specs.Macros.{Table, no_macros, is_name, body_of, expansion}
 use Rattle.vf_preproc.specs.Frames.{front}
 use Rattle.vf_preproc.specs.Keywords.{is_keyword}
-use Rattle.vf_preproc.specs.Directives.{Fault, Refused, Missing, Unread, ◌>>=◌, no_directive, no_include, lines_of, is_hash, word_of, has_ghost, is_taken, skipped_group, if_groups, is_alone, else_groups, end_groups, outermost, defined, begins_parameters}
+use Rattle.vf_preproc.specs.Directives.{Fault, Refused, Unread, ◌>>=◌, no_directive, no_include, lines_of, is_hash, word_of, has_ghost, is_taken, skipped_group, if_groups, is_alone, else_groups, end_groups, outermost, defined, begins_parameters}
 use Rattle.vf_preproc.specs.Targets.{is_ghost_path, target}
 
 -- what there is to know of the file at a path: its number, its bytes and its tokens; the place where it has no token; that it is too long; that there is none; or nothing

@@ -1,29 +1,19 @@
 //! The replacement of macros.
 
-ghost use Rattle.std.specs.Prelude.{◌≡◌, ◌≤◌, ◌<◌, ◌-◌, ◌++◌, ◌∷◌, [], length, reverse, nat_eq, OnOk, IfOk};
+ghost use Rattle.std.specs.Prelude.{◌≡◌, ◌≤◌, ◌<◌, ◌-◌, ◌++◌, ◌∷◌, [], false, length, reverse, nat_eq, OnOk, IfOk};
 ghost use Rattle.vf_preproc.specs.Macros.{at_use, is_name, macro_at, expansion};
 ghost use Rattle.std.specs.List.{list_any};
 ghost use Rattle.vf_preproc.specs.Kept.{table_of};
 ghost use Rattle.vf_preproc.specs.Frames.{numbers_of, front, done, due, opened, Opens};
 
 use crate::macros::Macros;
+use crate::stack::{Frame, Stack};
 use std::alloc::Global;
-use std::rc::Rc;
 use vf_base::Memory;
 use vf_lexer::{Kind, Token, TokenList};
 
 /// The most tokens of a unit.
 pub const MOST_TOKENS: usize = 200_000;
-
-/// A macro that is being replaced.
-#[derive(Drop)]
-struct Frame {
-    /// The macro's number.
-    number: usize,
-    body: Rc<TokenList>,
-    /// How many of its tokens were taken already.
-    at: usize,
-}
 
 /// Whether a token is a name.
 pub fn is_name(token: &Token) -> bool
@@ -50,33 +40,21 @@ fn at_use(name: &Token, token: &Token) -> Result<Token, Memory>
 }
 
 /// The number of the macro that replaces a token, where there is one that is not being replaced already.
-fn macro_at(macros: &Macros, stack: &[Frame], token: &Token) -> Option<usize>
+fn macro_at(macros: &Macros, stack: &Stack, token: &Token) -> Option<usize>
     ensures { result ≡ macro_at (table_of macros.now) (numbers_of (reverse stack.now)) token.now }
 {
     if !is_name(token) {
         return None;
     }
     let number = macros.names.number(token.text.as_bytes())?;
-    if is_open(stack, number) {
+    if stack.has(number) {
         return None;
     }
     Some(number)
 }
 
-/// Whether a macro is being replaced.
-fn is_open(stack: &[Frame], number: usize) -> bool
-    ensures { result ≡ list_any (nat_eq number) (numbers_of (reverse stack.now)) }
-{
-    for frame in stack {
-        if frame.number == number {
-            return true;
-        }
-    }
-    false
-}
-
 /// The number of the macro that replaces a token, unless macros stand within one another already as deep as there are some.
-fn opened(macros: &Macros, stack: &[Frame], token: &Token) -> Option<usize>
+fn opened(macros: &Macros, stack: &Stack, token: &Token) -> Option<usize>
     ensures { result ≡ opened (length macros.now.names - length stack.now) (table_of macros.now) (numbers_of (reverse stack.now)) token.now }
 {
     if stack.len() < macros.names.len() {
@@ -87,8 +65,9 @@ fn opened(macros: &Macros, stack: &[Frame], token: &Token) -> Option<usize>
 }
 
 /// Begins with the tokens of a macro.
-fn open(macros: &Macros, stack: &mut Vec<Frame>, number: usize) -> Result<(), Memory>
-    ensures { OnOk result (Opens (table_of macros.now) number stack.old.items stack.new.items) }
+fn open(macros: &Macros, stack: &mut Stack, number: usize) -> Result<(), Memory>
+    requires { list_any (nat_eq number) (numbers_of (reverse stack.old)) ≡ false }
+    ensures { OnOk result (Opens (table_of macros.now) number stack.old stack.new) }
 {
     if let Some(body) = macros.bodies.get(number) {
         let frame = Frame {
@@ -105,12 +84,12 @@ fn open(macros: &Macros, stack: &mut Vec<Frame>, number: usize) -> Result<(), Me
 fn put_or_open(
     out: &mut TokenList,
     macros: &Macros,
-    stack: &mut Vec<Frame>,
+    stack: &mut Stack,
     token: Token,
 ) -> Result<(), Memory>
     requires { length out.old < 200001 }
-    ensures done { OnOk result (done (table_of macros.now) token out.new stack.new.items
-        ≡ front (out.old ++ due (table_of macros.now) stack.old.items token)) }
+    ensures done { OnOk result (done (table_of macros.now) token out.new stack.new
+        ≡ front (out.old ++ due (table_of macros.now) stack.old token)) }
     ensures few { OnOk result (length out.new ≤ 200001) }
 {
     match opened(macros, stack, &token) {
@@ -123,13 +102,14 @@ fn put_or_open(
 fn advance(
     out: &mut TokenList,
     macros: &Macros,
-    stack: &mut Vec<Frame>,
+    stack: &mut Stack,
     frame: Frame,
     name: &Token,
 ) -> Result<(), Memory>
-    requires { length out.old < 200001 }
-    ensures done { OnOk result (done (table_of macros.now) name.now out.new stack.new.items
-        ≡ done (table_of macros.now) name.now out.old (stack.old.items ++ frame ∷ [])) }
+    requires few { length out.old < 200001 }
+    requires apart { list_any (nat_eq frame.number) (numbers_of (reverse stack.old)) ≡ false }
+    ensures done { OnOk result (done (table_of macros.now) name.now out.new stack.new
+        ≡ done (table_of macros.now) name.now out.old (stack.old ++ frame ∷ [])) }
     ensures few { OnOk result (length out.new ≤ 200001) }
 {
     let _size = frame.body.len();
@@ -162,7 +142,7 @@ pub fn put_expanded(
     if out.len() > MOST_TOKENS {
         return Ok(());
     }
-    let mut stack = Vec::new(alloc);
+    let mut stack = Stack::new(alloc);
     put_or_open(out, macros, &mut stack, at_use(token, token)?)?;
     while *budget > 0 {
         if out.len() > MOST_TOKENS {

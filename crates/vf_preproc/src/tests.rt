@@ -132,6 +132,25 @@ fn refusals(rt: HostRuntime) -> Result<(), Fail> {
 }
 
 /// What an include means: its text, the file that it stands in, whether it is ghost text, and the path or the rule.
+const TARGETS: [(&str, &str, bool, Result<&str, Rule>); 16] = [
+    ("include \"a.h\"", "b.c", false, Ok("a.h")),
+    ("include \"a.h\"", "src/b.c", false, Ok("src/a.h")),
+    ("include \"../a.h\"", "src/b.c", false, Ok("a.h")),
+    ("include \"/a.h\"", "src/b.c", false, Ok("/a.h")),
+    ("include \"stdlib.h\"", "src/b.c", false, Ok("<stdlib.h>")),
+    ("include <stdio.h>", "b.c", false, Ok("<stdio.h>")),
+    ("include \"a.gh\"", "b.c", true, Ok("a.gh")),
+    ("include \"a.gh\"", "b.c", false, Err(Rule::Directive)),
+    ("include \"a.h\"", "b.c", true, Err(Rule::Directive)),
+    ("include \"\"", "b.c", false, Err(Rule::Directive)),
+    ("include \"a b\"", "b.c", false, Err(Rule::Directive)),
+    ("include \"x/..\"", "b.c", false, Err(Rule::Directive)),
+    ("include <a.h>", "b.c", false, Err(Rule::Include)),
+    ("include < stdio.h>", "b.c", false, Err(Rule::Include)),
+    ("include <stdio.h> x", "b.c", false, Err(Rule::Directive)),
+    ("include", "b.c", false, Err(Rule::Directive)),
+];
+
 #[test]
 fn targets(rt: HostRuntime) -> Result<(), Fail> {
     let hash = Place {
@@ -139,24 +158,7 @@ fn targets(rt: HostRuntime) -> Result<(), Fail> {
         line: 1,
         column: 1,
     };
-    for (text, file, is_ghost, path) in [
-        ("include \"a.h\"", "b.c", false, Ok("a.h")),
-        ("include \"a.h\"", "src/b.c", false, Ok("src/a.h")),
-        ("include \"../a.h\"", "src/b.c", false, Ok("a.h")),
-        ("include \"/a.h\"", "src/b.c", false, Ok("/a.h")),
-        ("include \"stdlib.h\"", "src/b.c", false, Ok("<stdlib.h>")),
-        ("include <stdio.h>", "b.c", false, Ok("<stdio.h>")),
-        ("include \"a.gh\"", "b.c", true, Ok("a.gh")),
-        ("include \"a.gh\"", "b.c", false, Err(Rule::Directive)),
-        ("include \"a.h\"", "b.c", true, Err(Rule::Directive)),
-        ("include \"\"", "b.c", false, Err(Rule::Directive)),
-        ("include \"a b\"", "b.c", false, Err(Rule::Directive)),
-        ("include \"x/..\"", "b.c", false, Err(Rule::Directive)),
-        ("include <a.h>", "b.c", false, Err(Rule::Include)),
-        ("include < stdio.h>", "b.c", false, Err(Rule::Include)),
-        ("include <stdio.h> x", "b.c", false, Err(Rule::Directive)),
-        ("include", "b.c", false, Err(Rule::Directive)),
-    ] {
+    for (text, file, is_ghost, path) in TARGETS {
         let words = tokens_of(rt.alloc(), text)?;
         match target(
             rt.alloc(),

@@ -1,4 +1,4 @@
-use Rattle.std.proofs.Common.{◌≡◌, ◌≤◌, ℕ, refl, sym, arith}
+use Rattle.std.proofs.Common.{refl}
 use Rattle.vf_expand.specs.Worlds.{World, world}
 use Rattle.vf_expand.proofs.Learning.{reads_same, reads_then, reads_kept, no_less}
 use Rattle.vf_expand.proofs.sources.get_prelude.Goals as goal

@@ -1,4 +1,4 @@
-use Rattle.std.proofs.Common.{◌≡◌, ◌≤◌, ℕ, refl, sym, arith}
+use Rattle.std.proofs.Common.{sym}
 use Rattle.vf_expand.proofs.Learning.{reads_asked}
 use Rattle.vf_expand.proofs.sources.get_source.Goals as goal
 

@@ -1,7 +1,6 @@
-use Rattle.std.proofs.Common.{◌≡◌, List, ℕ, Bool, Some, Err, refl, sym, ap, subst, ◌∙◌}
+use Rattle.std.proofs.Common.{◌≡◌, Some, Err, sym, ap, subst, ◌∙◌}
 use Rattle.vf_snapshot.specs.declared.held.Held.TheVariants as known
 use Rattle.vf_preproc.specs.Targets.{is_ghost_path}
-use Rattle.vf_preproc.specs.declared.fault.ExpandFault.TheVariants as faults
 use Rattle.vf_expand.specs.Wholes.{Cut, NamedGives, named}
 use Rattle.vf_expand.proofs.Loading.{cut_told, cut_short, cut_there, cut_read, held_bytes, fault_told, stands_missing, read_fault_named, fault_in}
 use Rattle.vf_expand.proofs.sources.load.Goals as goal

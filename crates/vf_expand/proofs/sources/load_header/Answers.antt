@@ -1,4 +1,4 @@
-use Rattle.std.proofs.Common.{◌≡◌, Err, sym, ap, subst, ◌∙◌}
+use Rattle.std.proofs.Common.{Err, sym, ap, subst, ◌∙◌}
 use Rattle.vf_preproc.specs.UnitText.{loaded}
 use Rattle.vf_expand.specs.Steps.{Faults}
 use Rattle.vf_expand.proofs.Loading.{read_included, fault_included, read_fault_included, there_included, fault_in}

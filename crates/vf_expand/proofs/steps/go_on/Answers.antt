@@ -1,9 +1,12 @@
-use Rattle.std.proofs.Common.{◌≡◌, Ok, Err, sym, ap, subst, ◌∙◌}
+use Rattle.std.proofs.Common.{◌≤◌, ◌-◌, suc, length, arith, Ok, Err, sym, ap, subst, ◌∙◌}
 use Rattle.std.proofs.lemmas.Result.{err_from_is_err_and}
 use Rattle.vf_preproc.specs.Directives.{Unread}
 use Rattle.vf_preproc.specs.Units.{unit_of}
 use Rattle.vf_expand.specs.Steps.{NextGives, LineGives}
-use Rattle.vf_expand.specs.Walks.{going_of, pauses_of, text_from}
+use Rattle.vf_preproc.specs.UnitText.{header_at}
+use Rattle.vf_expand.specs.Walks.{going_of, pauses_of, resumed, text_from}
+use Rattle.vf_expand.specs.Weights.{left_of, lefts_of, LineFalls}
+use Rattle.vf_expand.proofs.Weighing.{fewer_weigh, no_more_weigh, next_falls}
 use Rattle.vf_expand.proofs.Loading.{fault_in}
 use Rattle.vf_expand.proofs.Walking.{line_faults, fails_own, own_read, own_there, own_read_of, own_there_of}
 use Rattle.vf_expand.proofs.steps.go_on.Goals as goal
@@ -35,3 +38,26 @@ returns-in-End-clause-read_fault g c = λ is. absurd (own_read_of c.end.result c
 
 pub returns-in-End-clause-there : goal.returns-in-End-clause-there
 returns-in-End-clause-there g c = λ is. own_there_of c.end.result c.end.ensures.own is
+
+pub returns-in_ok-walk-in-Include-clause-exact : goal.returns-in_ok-walk-in-Include-clause-exact
+returns-in_ok-walk-in-Include-clause-exact g c = λ library tells.
+    let line = subst (λ l. LineGives (going_of c.args.walk.current) (unit_of c.args.walk.unit) (going_of c.follow_next.new.current) (unit_of c.follow_next.new.unit) (Ok l)) c.in-Include.is c.in_ok-follow_next.ensures.exact in
+    ap (resumed library (pauses_of c.args.walk.stack.items)) (line.1 (header_at (32 - length (pauses_of c.args.walk.stack.items)) library)) ∙ c.in_ok-walk-in-Include.ensures.exact library tells
+
+pub returns-in_ok-walk-in-Include-clause-falls : goal.returns-in_ok-walk-in-Include-clause-falls
+returns-in_ok-walk-in-Include-clause-falls g c =
+    let line = subst (LineFalls (left_of c.args.walk.current) (left_of c.follow_next.new.current)) c.in-Include.is c.in_ok-follow_next.ensures.falls in
+    let less : suc (left_of c.follow_next.new.current) ≤ left_of c.args.walk.current = omega arith in
+    let most = no_more_weigh (suc (left_of c.follow_next.new.current)) (left_of c.args.walk.current) (lefts_of c.args.walk.stack.items) less in
+    let falls = c.in_ok-walk-in-Include.ensures.falls in
+    omega arith
+
+pub returns-in-Done-clause-falls : goal.returns-in-Done-clause-falls
+returns-in-Done-clause-falls g c =
+    fewer_weigh (left_of c.follow_next.new.current) (left_of c.args.walk.current) (lefts_of c.args.walk.stack.items)
+    (subst (LineFalls (left_of c.args.walk.current) (left_of c.follow_next.new.current)) c.in-Done.is c.in_ok-follow_next.ensures.falls)
+
+pub returns-in-End-clause-falls : goal.returns-in-End-clause-falls
+returns-in-End-clause-falls g c =
+    let line = subst (LineFalls (left_of c.args.walk.current) (left_of c.follow_next.new.current)) c.in-End.is c.in_ok-follow_next.ensures.falls in
+    next_falls _ _ (no_more_weigh (left_of c.follow_next.new.current) (left_of c.args.walk.current) (lefts_of c.args.walk.stack.items) line) c.end.result c.end.ensures.falls

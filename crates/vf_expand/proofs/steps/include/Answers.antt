@@ -1,4 +1,4 @@
-use Rattle.std.proofs.Common.{◌≡◌, ◌≤◌, length, arith, sym, subst}
+use Rattle.std.proofs.Common.{◌≤◌, length, arith, sym, subst}
 use Rattle.vf_preproc.specs.Units.{unit_of}
 use Rattle.vf_expand.specs.Steps.{Faults, walk_include_text}
 use Rattle.vf_expand.specs.Walks.{going_of, pauses_of}

@@ -1,4 +1,3 @@
-use Rattle.std.proofs.Common.{◌≡◌, sym, ap, ◌∙◌}
 use Rattle.std.proofs.lemmas.Result.{err_from_is_err_and}
 use Rattle.vf_preproc.specs.Scopes.{header_of}
 use Rattle.vf_preproc.specs.Units.{unit_of}

@@ -4,6 +4,7 @@ use Rattle.vf_preproc.specs.UnitText.{Library}
 use Rattle.vf_preproc.specs.Units.{Tells}
 use Rattle.vf_expand.specs.Worlds.{world, Reads}
 use Rattle.vf_expand.specs.Walks.{walk_text}
+use Rattle.vf_expand.specs.Weights.{weight}
 use Rattle.vf_expand.proofs.steps.walk_on.Given as goal
 
 abbrev pub invariant-steps : goal.invariant-steps
@@ -14,3 +15,7 @@ invariant-steps g l = record {
       (world l.fn.snapshot (g.F.Files.contents l.fn.files) (g.F.Files.failures l.fn.files) (g.F.Files.absences l.fn.files) (g.F.Files.put_failures l.fn.files))
       (world l.snapshot (g.F.Files.contents l.files) (g.F.Files.failures l.files) (g.F.Files.absences l.files) (g.F.Files.put_failures l.files));
 }
+
+-- Less is left of the walk with each step.
+abbrev pub decreases-steps : goal.decreases-steps
+decreases-steps g l = weight l.state

@@ -1,4 +1,4 @@
-use Rattle.std.proofs.Common.{◌≡◌, List, ℕ, ◌∙◌, sym, ap, subst}
+use Rattle.std.proofs.Common.{◌≡◌, List, ℕ, ◌∙◌, sym, ap}
 use Rattle.std.proofs.lemmas.Result.{err_from_is_err_and}
 use Rattle.vf_preproc.specs.Directives.{◌>>=◌}
 use Rattle.vf_expand.specs.Wholes.{named, text_of_file, text_of_unit}

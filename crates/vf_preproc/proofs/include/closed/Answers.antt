@@ -1,5 +1,4 @@
-use Rattle.std.proofs.Common.{rules, ◌≡◌, ◌≤◌, length, get_or, sym, ap, subst, refl, arith}
-use Rattle.vf_base.specs.declared.rule.Rule.TheVariants as rules_of
+use Rattle.std.proofs.Common.{rules, ◌≤◌, length, sym, subst, refl}
 use Rattle.vf_preproc.specs.Answers.{Fails}
 use Rattle.vf_preproc.specs.Scopes.{scope_of}
 use Rattle.vf_preproc.specs.UnitText.{closed}

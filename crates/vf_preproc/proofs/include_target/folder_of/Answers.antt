@@ -1,5 +1,4 @@
-use Rattle.std.proofs.Common.{◌≡◌, ◌≢◌, ◌+◌, ◌<◌, ◌≤◌, length, take, get_or, arith, sym, ap, ◌∙◌}
-use Rattle.vf_preproc.specs.Targets.{folder_of}
+use Rattle.std.proofs.Common.{take, arith, sym, ap, ◌∙◌}
 use Rattle.vf_preproc.proofs.Targeting.{folder-take-slash, folder-take-other}
 use Rattle.vf_preproc.proofs.include_target.folder_of.Goals as goal
 use Rattle.vf_preproc.proofs.include_target.folder_of.Goals.{then-byte-eq47, else-byte-eq47}

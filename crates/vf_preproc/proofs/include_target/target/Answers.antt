@@ -1,4 +1,4 @@
-use Rattle.std.proofs.Common.{◌≡◌, ◌<◌, ◌≤◌, List, ℕ, true, length, arith, sym, ap, ◌∙◌, subst, refl, Err}
+use Rattle.std.proofs.Common.{◌≡◌, List, ℕ, true, arith, sym, ap, ◌∙◌, subst, refl, Err}
 use Rattle.vf_preproc.specs.Targets.{quoted_target, angle_target, between_quotes, is_less_kind, closed_target, closing}
 use Rattle.vf_base.specs.declared.rule.Rule.TheVariants as rules_of
 use Rattle.vf_preproc.specs.Directives.{Refused}

@@ -1,7 +1,6 @@
-use Rattle.std.proofs.Common.{rules, ◌≡◌, ◌<◌, ◌+◌, ℕ, List, Some, None, Ok, drop, length, map, get_or, slice_get, option_map, arith, sym, ap, ◌∙◌, subst, refl}
+use Rattle.std.proofs.Common.{rules, ◌≡◌, ◌+◌, Some, None, drop, length, map, slice_get, option_map, arith, sym, ap, ◌∙◌, subst, refl}
 use Rattle.std.proofs.lemmas.Result.{err_from_is_err_and}
 use Rattle.std.proofs.lemmas.Option.{slice_get_read, slice_get-map}
-use Rattle.vf_lexer.specs.declared.token.Token.{Token}
 use Rattle.vf_preproc.specs.Kept.{table_of}
 use Rattle.vf_preproc.specs.Directives.{◌>>=◌}
 use Rattle.vf_preproc.specs.Answers.{Fails}

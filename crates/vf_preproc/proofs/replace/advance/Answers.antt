@@ -7,7 +7,7 @@ use Rattle.vf_preproc.proofs.replace.advance.Goals as goal
 pub returns-in_default-clause-done : goal.returns-in_default-clause-done
 returns-in_default-clause-done c =
     let none : slice_get c.args.frame.body.value c.args.frame.at ≡ None = ap (λ b. slice_get b c.args.frame.at) (sym c.deref-2.ensures) ∙ sym c.in_default.ensures in
-    sym (ended (table_of c.args.macros.now) c.args.name.now c.args.out.now c.args.stack.now.items c.args.frame none)
+    sym (ended (table_of c.args.macros.now) c.args.name.now c.args.out.now c.args.stack.now c.args.frame none)
 
 pub overflow_add-rest : goal.overflow_add-rest
 overflow_add-rest c =
@@ -19,5 +19,5 @@ overflow_add-rest c =
 pub returns-clause-done : goal.returns-clause-done
 returns-clause-done c =
     let at : slice_get c.args.frame.body.value c.args.frame.at ≡ Some c.in-Some.token.now = ap (λ b. slice_get b c.args.frame.at) (sym c.deref-2.ensures) ∙ sym c.in-Some.ensures in
-    taken_result c.put_or_open.result (table_of c.args.macros.now) c.args.name.now c.args.out.now c.put_or_open.new.out c.args.stack.now.items c.push.new.self.items c.put_or_open.new.stack.items c.args.frame (record { number = c.args.frame.number; body = c.args.frame.body; at = c.args.frame.at + 1 }) c.in-Some.token.now c.in_ok-token.token
-    at refl refl refl c.in_ok-token.ensures c.in_ok-push.ensures.items c.put_or_open.ensures.done
+    taken_result c.put_or_open.result (table_of c.args.macros.now) c.args.name.now c.args.out.now c.put_or_open.new.out c.args.stack.now c.push.new.self c.put_or_open.new.stack c.args.frame (record { number = c.args.frame.number; body = c.args.frame.body; at = c.args.frame.at + 1 }) c.in-Some.token.now c.in_ok-token.token
+    at refl refl refl c.in_ok-token.ensures c.in_ok-push.ensures c.put_or_open.ensures.done

@@ -7,7 +7,7 @@ use Rattle.vf_preproc.proofs.replace.put_expanded.Given as goal
 
 abbrev pub invariant-loop-budget : goal.invariant-loop-budget
 invariant-loop-budget l = record {
-  same : done (table_of l.macros) l.token l.out l.stack.items ≡ front (l.fn.out ++ expansion (table_of l.macros) (l.token ∷ []));
+  same : done (table_of l.macros) l.token l.out l.stack ≡ front (l.fn.out ++ expansion (table_of l.macros) (l.token ∷ []));
   few : length l.out ≤ 200001;
 }
 

@@ -1,7 +1,7 @@
-use Rattle.std.proofs.Common.{rules, ◌≡◌, ◌&&◌, not, true, false, reverse, sym, ◌∙◌, refl}
+use Rattle.std.proofs.Common.{rules, ◌≡◌, ◌&&◌, not, true, false, sym, ◌∙◌, refl}
 use Rattle.vf_preproc.specs.Targets.{is_ghost_path}
 use Rattle.vf_preproc.specs.Directives.{is_taken, word_of}
-use Rattle.vf_preproc.specs.UnitText.{directive, annotated, directed, passed, included}
+use Rattle.vf_preproc.specs.UnitText.{annotated, directed, passed}
 use Rattle.vf_preproc.specs.LineSteps.{file_of}
 use Rattle.vf_preproc.specs.Scopes.{scope_of}
 use Rattle.vf_preproc.proofs.Grouping.{StepGives-same}

@@ -1,4 +1,4 @@
-use Rattle.std.proofs.Common.{◌≡◌, ◌≤◌, ◌<◌, ◌++◌, ◌∷◌, [], length, take, get_or, arith, sym, ap, subst, ◌∙◌}
+use Rattle.std.proofs.Common.{◌≡◌, ◌≤◌, ◌<◌, ◌++◌, ◌∷◌, [], length, get_or, arith, sym, ap, subst, ◌∙◌}
 use Rattle.vf_preproc.specs.Macros.{expansion}
 use Rattle.vf_preproc.specs.Kept.{table_of}
 use Rattle.vf_preproc.specs.Frames.{front}

@@ -1,6 +1,5 @@
-use Rattle.std.proofs.Common.{◌≡◌, ◌<◌, ℕ, length, get_or, take, arith, sym, ap, ◌∙◌, subst}
+use Rattle.std.proofs.Common.{◌≡◌, ℕ, length, get_or, take, arith, subst}
 use Rattle.std.specs.List.{AllByRecursion}
-use Rattle.vf_lexer.specs.declared.token.Token.{Token}
 use Rattle.vf_preproc.proofs.Lines.{IsOn, first_line, leaves_at, leaves_end}
 use Rattle.vf_preproc.proofs.words.first_line.Goals as goal
 

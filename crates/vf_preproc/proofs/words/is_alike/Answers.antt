@@ -1,4 +1,4 @@
-use Rattle.std.proofs.Common.{◌≡◌, ◌≢◌, length, arith, sym, false}
+use Rattle.std.proofs.Common.{◌≢◌, length, arith, sym}
 use Rattle.vf_preproc.proofs.Lines.{other_length}
 use Rattle.vf_preproc.proofs.words.is_alike.Goals as goal
 
