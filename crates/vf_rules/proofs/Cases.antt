@@ -1,16 +1,16 @@
 -- A switch whose branches ask for nothing holds of nothing.
-use Rattle.std.proofs.Common.{◌≡◌, ℕ, Bool, true, false, List, [], ◌∷◌, refl, sym, ap, subst, ◌∙◌, inl, inr}
+use Rattle.std.proofs.Common.{List, refl, sym, subst, inl, inr}
 use Rattle.std.specs.Bool.{MatchBool}
 use Rattle.std.proofs.lemmas.Bool.{cases_Bool}
 use Rattle.vf_model.specs.Values.{Value, Values, same_identity}
 use Rattle.vf_model.specs.Values as values
 use Rattle.vf_meaning.specs.Fractions.{whole}
-use Rattle.vf_meaning.specs.Ghost.{Sort, GhostExpression}
+use Rattle.vf_meaning.specs.Ghost.{Sort}
 use Rattle.vf_meaning.specs.Valuations.{Valuation, all_bound}
 use Rattle.vf_meaning.specs.Parts.{nothing}
-use Rattle.vf_meaning.specs.Satisfaction.{SatisfiesBranch, SatisfiesBy, MeansAt, SatisfiesAt}
-use Rattle.vf_meaning.specs.Assertions.{Assertion, Empty, Branches, no_branches, branch, Environment}
-use Rattle.vf_rules.specs.States.{meaning, value_in}
+use Rattle.vf_meaning.specs.Satisfaction.{SatisfiesBranch, SatisfiesBy, MeansAt}
+use Rattle.vf_meaning.specs.Assertions.{Branches, no_branches, branch, Environment}
+use Rattle.vf_rules.specs.States.{meaning}
 use Rattle.vf_rules.specs.Produce.{NamesHaveSorts, IsCovered}
 use Rattle.vf_rules.specs.Cases.{AreEmpty, EmptyCasesHold}
 use Rattle.vf_rules.proofs.Terms.{bound_value}

@@ -13,3 +13,4 @@ pub mod Opening
 pub mod Loops
 pub mod Cases
 pub mod Evaluates
+pub mod LemmaCalls

@@ -1,5 +1,6 @@
 -- Taking from a heap, joining and renaming chunks: what a state stands for is parted, and stays.
-use Rattle.std.proofs.Common.{◌≡◌, ℕ, List, [], ◌∷◌, ◌++◌, map, Option, Some, None, pos, refl, sym, ap, subst, subst₂, ◌∙◌}
+use Rattle.std.proofs.Common.{◌≡◌, ℕ, zero, suc, length, ap₂, List, [], ◌∷◌, ◌++◌, map, Option, Some, None, pos, refl, sym, ap, subst, subst₂, ◌∙◌}
+use Rattle.std.specs.Prelude.{ℤ}
 use Rattle.std.proofs.lemmas.List.{map-append}
 use Rattle.vf_tree.specs.Core.{Identity, Field}
 use Rattle.vf_model.specs.Values.{Dyadic, Value, Values}
@@ -11,17 +12,17 @@ use Rattle.vf_meaning.specs.GhostValues.{values_of}
 use Rattle.vf_meaning.specs.Assertions.{Head, BlockOf, Named, Family, Applied, Environment}
 use Rattle.vf_meaning.specs.Parts.{Part, Content, single, ◌⊕◌, IsSum}
 use Rattle.vf_meaning.specs.Parts as parts
-use Rattle.vf_meaning.specs.Chunks.{Wanted, Just, AllMeet, Primitive, Mutexes, HeldMutexes, Handles, IntBlocks, IntCells, Others, primitive, CellMeets, IsFieldCell, IsStructBlock, IsIntBlock, IsMutex, IsHeldMutex, IsHandle}
+use Rattle.vf_meaning.specs.Chunks.{Wanted, Just, AllMeet, Primitive, Mutexes, HeldMutexes, Handles, IntBlocks, IntCells, Others, primitive, CellMeets, IsRow, IsRowAt, IsInts, RowMeets, list_of, IsFieldCell, IsStructBlock, IsIntBlock, IsMutex, IsHeldMutex, IsHandle}
 use Rattle.vf_meaning.specs.Satisfaction.{SatisfiesPrimitive, SatisfiesNamed, SatisfiesValue, SatisfiesHead, MeansAt}
 use Rattle.vf_meaning.specs.SatisfactionLaws.{IsOfOneLocation}
 use Rattle.vf_meaning.proofs.Values.{tells_values}
 use Rattle.vf_meaning.proofs.Fractions.{stays_positive}
-use Rattle.vf_meaning.proofs.Parts.{sums_turn, sums_regroup}
+use Rattle.vf_meaning.proofs.Parts.{sums_turn, sums_regroup, in_left, single_here}
 use Rattle.vf_meaning.proofs.Satisfaction.{Two, two_map, two_single, two_means, two_head}
-use Rattle.vf_meaning.proofs.Joins.{same_content, one_location, same_start}
+use Rattle.vf_meaning.proofs.Joins.{same_content, one_location, same_start, row_at_joined}
 use Rattle.vf_rules.specs.Terms.{Term, in_row}
 use Rattle.vf_rules.specs.States.{Fact, ChunkHead, CellOf, Of, SymbolicChunk, SymbolicState, meaning, value_in, IsMet, Meets, wanted_in, HeadMeans, ChunkMeans, ChunksMean, StandsFor, with_chunks}
-use Rattle.vf_rules.specs.Take.{same, with_share, Takes, takes_all, takes_part, takes_later, Removes, removes_here, removes_later, IsPrimitive, joined, equalities, Joins, Merges, merges_here, merges_later, all_known, Renames, Replaces, replaces_here, replaces_later, Change, learns, merges, names_value, makes_value, Changes, no_change, and_change}
+use Rattle.vf_rules.specs.Take.{same, with_share, Takes, takes_all, takes_part, takes_later, Removes, removes_here, removes_later, IsPrimitive, joined, equalities, Joins, JoinsRows, Merges, merges_here, merges_rows, merges_later, all_known, Renames, Replaces, replaces_here, replaces_later, Change, learns, merges, names_value, makes_value, Changes, no_change, and_change}
 use Rattle.vf_rules.proofs.Stands.{assuming_all_stands}
 
 -- ---- equal terms
@@ -259,6 +260,89 @@ joins_mean e v path c d both facts j m p q r h k s =
     record { fraction = sum x y; share = (j.sums).by v m x y h.share k.share; positive = (stays_positive.0) x y h.positive; head = r2.1 } in
     (subst (λ z. Meets e v z) (sym j.facts_are) r2.0, subst (λ z. ChunkMeans e v z r) (sym j.both_is) chunk)
 
+-- ---- joining rows
+unlike : {n : ℕ} {A : Type 0} → zero ≡ suc n → A
+unlike h = cc
+
+same_long : {a b : ℕ} → values.Number (pos a) ≡ values.Number (pos b) → a ≡ b
+same_long h = cc
+
+shorter : {a b : ℕ} → suc a ≡ suc b → a ≡ b
+shorter h = cc
+
+-- two rows at one place of which the sum is a part are the same
+rows_agree : (x y : Dyadic) (b k : ℕ) (row other : List (Option Value)) (p q r : Part) → IsPositive x → IsPositive y → length row ≡ length other → IsRow x b k row p → IsRow y b k other q → IsSum p q r → row ≡ other
+rows_agree x y b k [] [] p q r i j l h m s = refl
+rows_agree x y b k [] (c ∷ cs) p q r i j l h m s = unlike l
+rows_agree x y b k (c ∷ cs) [] p q r i j l h m s = unlike (sym l)
+rows_agree x y b k (c ∷ cs) (d ∷ ds) p q r i j l h m s =
+    let at = parts.IndexCell b k in
+    let one = single at (parts.CellOf c) x in
+    let two = single at (parts.CellOf d) y in
+    let mine = in_left one h.0 p h.1 at (parts.CellOf c) (subst IsPositive (sym (single_here at (parts.CellOf c) x)) i) in
+    let yours = in_left two m.0 q m.1 at (parts.CellOf d) (subst IsPositive (sym (single_here at (parts.CellOf d) y)) j) in
+    let here : d ≡ c = cell_same c d (s.agree at (parts.CellOf c) (parts.CellOf d) mine yours) in
+    let (u, inner, outer) = sums_regroup one h.0 p q r h.1 s in
+    let (w, deep, rest) = sums_regroup two m.0 q h.0 u m.1 (sums_turn h.0 q u inner) in
+    ap₂ (λ z zs. z ∷ zs) (sym here) (rows_agree x y b (suc k) cs ds h.0 m.0 w i j (shorter l) h.2 m.2 (sums_turn m.0 h.0 w deep))
+
+rows_agree_at : (x y : Dyadic) (pointer : Value) (row other : List (Option Value)) (p q r : Part) → IsPositive x → IsPositive y → length row ≡ length other → IsRowAt x pointer row p → IsRowAt y pointer other q → IsSum p q r → row ≡ other
+rows_agree_at x y pointer [] [] p q r i j l h m s = refl
+rows_agree_at x y pointer [] (c ∷ cs) p q r i j l h m s = unlike l
+rows_agree_at x y pointer (c ∷ cs) [] p q r i j l h m s = unlike (sym l)
+rows_agree_at x y (values.Pointer b (pos o)) (c ∷ cs) (d ∷ ds) p q r i j l h m s = rows_agree x y b o (c ∷ cs) (d ∷ ds) p q r i j l h m s
+rows_agree_at x y _ (c ∷ cs) (d ∷ ds) p q r i j l h m s = absurd h
+
+number_first : {y z : ℤ} {ys zs : List (Option Value)} → Some (values.Number y) ∷ ys ≡ Some (values.Number z) ∷ zs → y ≡ z
+number_first h = cc
+
+number_later : {A : Type 0} {y z : A} {ys zs : List A} → y ∷ ys ≡ z ∷ zs → ys ≡ zs
+number_later h = cc
+
+some_none : {A B : Type 0} {z : A} {zs : List A} → [] ≡ z ∷ zs → B
+some_none h = cc
+
+numbers_same : (ys zs : List ℤ) → map (λ z. Some (values.Number z)) ys ≡ map (λ z. Some (values.Number z)) zs → ys ≡ zs
+numbers_same [] [] h = refl
+numbers_same [] (z ∷ zs) h = some_none h
+numbers_same (y ∷ ys) [] h = some_none (sym h)
+numbers_same (y ∷ ys) (z ∷ zs) h = ap₂ (λ w ws. w ∷ ws) (number_first h) (numbers_same ys zs (number_later h))
+
+lists_joined : (e : Environment) (v : Valuation) (t u : Option Term) (row : List (Option Value)) → RowMeets (wanted_in e v t) row → RowMeets (wanted_in e v u) row
+    → (o : Option Term) × (joined (t ∷ []) (u ∷ []) ≡ o ∷ []) × RowMeets (wanted_in e v o) row × Meets e v (equalities (t ∷ []) (u ∷ []))
+lists_joined e v None u row h k = (u, refl, k, tt)
+lists_joined e v (Some t) None row h k = (Some t, refl, h, tt)
+lists_joined e v (Some t) (Some u) row h k = (Some t, refl, h, (equal_met e v t u (h.1 ∙ ap list_of (numbers_same h.0 k.0 (sym h.2 ∙ k.2)) ∙ sym k.1), tt))
+
+rows_mean : (e : Environment) (v : Valuation) (path : List Fact) (c d both : SymbolicChunk) (facts : List Fact) → JoinsRows e path c d both facts → Meets e v path
+    → (p q r : Part) → ChunkMeans e v c p → ChunkMeans e v d q → IsSum p q r → Meets e v facts × ChunkMeans e v both r
+rows_mean e v path c d both facts j m p q r h k s =
+    let x = h.fraction in
+    let y = k.fraction in
+    let first = subst₂ (λ z w. HeadMeans e v x z w p) j.head j.arguments h.head in
+    let second = subst₂ (λ z w. HeadMeans e v y z w q) (j.one_head ∙ j.head) j.further k.head in
+    let mine : IsInts x (Just (value_in e v j.first) ∷ Just (value_in e v j.long) ∷ wanted_in e v j.held ∷ []) p =
+    subst (λ z. SatisfiesPrimitive (MeansAt e first.0) z x j.ints (Just (value_in e v j.first) ∷ Just (value_in e v j.long) ∷ wanted_in e v j.held ∷ []) p) j.known first.1 in
+    let yours : IsInts y (Just (value_in e v j.second) ∷ Just (value_in e v j.also) ∷ wanted_in e v j.other ∷ []) q =
+    subst (λ z. SatisfiesPrimitive (MeansAt e second.0) z y j.ints (Just (value_in e v j.second) ∷ Just (value_in e v j.also) ∷ wanted_in e v j.other ∷ []) q) j.known second.1 in
+    let place = same_value e v j.first j.second ((j.one_place).by v m) in
+    let many = same_value e v j.long j.also ((j.one_length).by v m) in
+    let one_long : length mine.1 ≡ length yours.1 = same_long (mine.3 ∙ many ∙ sym yours.3) in
+    let at_place : IsRowAt y mine.0 yours.1 q = subst (λ z. IsRowAt y z yours.1 q) (yours.2 ∙ sym place ∙ sym mine.2) yours.5 in
+    let agree = rows_agree_at x y mine.0 mine.1 yours.1 p q r h.positive k.positive one_long mine.5 at_place s in
+    let o = lists_joined e v j.held j.other mine.1 mine.4 (subst (λ z. RowMeets (wanted_in e v j.other) z) (sym agree) yours.4) in
+    let all : IsInts (sum x y) (Just (value_in e v j.first) ∷ Just (value_in e v j.long) ∷ wanted_in e v o.0 ∷ []) r =
+    (mine.0, mine.1, mine.2, mine.3, o.2, row_at_joined x y mine.0 mine.1 yours.1 p q r h.positive k.positive one_long mine.5 at_place s) in
+    let head : HeadMeans e v (sum x y) (Of (Named j.ints)) (Some j.first ∷ Some j.long ∷ o.0 ∷ []) r =
+    (first.0, subst (λ z. SatisfiesPrimitive (MeansAt e first.0) z (sum x y) j.ints (Just (value_in e v j.first) ∷ Just (value_in e v j.long) ∷ wanted_in e v o.0 ∷ []) r) (sym j.known) all) in
+    let chunk : ChunkMeans e v (record { share = j.total; head = c.head; arguments = Some j.first ∷ Some j.long ∷ joined (j.held ∷ []) (j.other ∷ []) }) r = record {
+      fraction = sum x y;
+      share = (j.sums).by v m x y h.share k.share;
+      positive = (stays_positive.0) x y h.positive;
+      head = subst₂ (λ z w. HeadMeans e v (sum x y) z w r) (sym j.head) (ap (λ z. Some j.first ∷ Some j.long ∷ z) (sym o.1)) head;
+    } in
+    (subst (λ z. Meets e v z) (sym j.facts_are) o.3, subst (λ z. ChunkMeans e v z r) (sym j.both_is) chunk)
+
 merges_mean : (e : Environment) (v : Valuation) (path facts : List Fact) {cs ds : List SymbolicChunk} → Merges e path facts cs ds → Meets e v path → (p : Part) → ChunksMean e v cs p → Meets e v facts × ChunksMean e v ds p
 merges_mean e v path facts (merges_here {c} {d} {both} taken j) m p k =
     let o = removes_parted e v d taken k.1 k.4 in
@@ -266,6 +350,11 @@ merges_mean e v path facts (merges_here {c} {d} {both} taken j) m p k =
     -- c and d together, and what is left of the others
     let whole_part = sums_regroup o.left o.off k.1 k.0 p (sums_turn o.off o.left k.1 o.sums) (sums_turn k.0 k.1 p k.2) in
     let two = joins_mean e v path c d both facts j m k.0 o.off whole_part.0 k.3 o.chunk (sums_turn o.off k.0 whole_part.0 whole_part.1) in
+    (two.0, (whole_part.0, o.left, sums_turn o.left whole_part.0 p whole_part.2, two.1, o.chunks_mean))
+merges_mean e v path facts (merges_rows {c} {d} {both} taken j) m p k =
+    let o = removes_parted e v d taken k.1 k.4 in
+    let whole_part = sums_regroup o.left o.off k.1 k.0 p (sums_turn o.off o.left k.1 o.sums) (sums_turn k.0 k.1 p k.2) in
+    let two = rows_mean e v path c d both facts j m k.0 o.off whole_part.0 k.3 o.chunk (sums_turn o.off k.0 whole_part.0 whole_part.1) in
     (two.0, (whole_part.0, o.left, sums_turn o.left whole_part.0 p whole_part.2, two.1, o.chunks_mean))
 merges_mean e v path facts (merges_later t) m p k =
     let r = merges_mean e v path facts t m k.1 k.4 in (r.0, (k.0, k.1, k.2, k.3, r.1))

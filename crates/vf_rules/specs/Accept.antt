@@ -2,12 +2,12 @@
 use Rattle.std.specs.Prelude.{IsTrue, ◌≡◌, ◌⊎◌, ℕ, zero, suc, pos, ◌≤◌, ◌-◌, ◌≢◌, List, [], ◌∷◌, ◌++◌, map, replicate, length, slice_get, slice_set, Option, Some, None}
 use Rattle.vf_base.specs.declared.place.Place.{Place}
 use Rattle.vf_base.specs.declared.int_type.IntType.TheVariants as types
-use Rattle.vf_tree.specs.Core.{Identity, Field, TypeTree, Void, Integer, ExpressionTree, Comparison, Set, Load, Store, Allocate, Free, Call, CallPointer, Signature, If, Return, FunctionTree, ProgramTree, NotEqual, LessEqual}
+use Rattle.vf_tree.specs.Core.{Identity, Field, TypeTree, Void, Integer, ExpressionTree, Comparison, Set, Load, Store, Allocate, Free, Offset, LoadAt, StoreAt, AllocateInts, FreeInts, Call, CallPointer, Signature, If, Return, FunctionTree, ProgramTree, NotEqual, LessEqual}
 use Rattle.vf_model.specs.Accesses.{field_count}
 use Rattle.vf_model.specs.State.{function_named}
-use Rattle.vf_model.specs.PreludeFunctions.{Abort, PutChar, PrintInt, prelude_named}
+use Rattle.vf_model.specs.PreludeFunctions.{PreludeFunction, Abort, PutChar, PrintInt, prelude_named, signature_of}
 use Rattle.vf_meaning.specs.Fractions.{whole}
-use Rattle.vf_meaning.specs.Ghost.{Sort, Name, Pointers, Result, This, CurrentThread, Variable, Claims, Null, Not, Compare, Fraction}
+use Rattle.vf_meaning.specs.Ghost.{Sort, Name, Pointers, Result, This, CurrentThread, Variable, Claims, Null, Not, Compare, PointerSum, Fraction}
 use Rattle.vf_meaning.specs.Ghost as ghost
 use Rattle.vf_meaning.specs.Kept.{IsFixed}
 use Rattle.vf_meaning.specs.Assertions.{BlockOf, Assertion, ContractTree, Environment}
@@ -23,7 +23,10 @@ use Rattle.vf_rules.specs.Laws.{Outcome, IsAmong}
 use Rattle.vf_rules.specs.Predicates.{store_of, AreInhabited, AreSorted, Opens, Closes}
 use Rattle.vf_rules.specs.Cases.{HoldsOfNothing}
 use Rattle.vf_rules.specs.Loops.{Loop, IsLoop, AreNamesSorted, Enters}
-use Rattle.vf_rules.specs.Evaluate.{Evaluates, EvaluatesAll, IsOfC}
+use Rattle.vf_rules.specs.Evaluate.{IsNumber, Evaluates, EvaluatesAll, IsOfC}
+use Rattle.vf_rules.specs.Arrays.{row_head, int_block_head, row_chunk, int_block_chunk, Finds, IsInside, IsItem, Becomes, Arranges}
+use Rattle.vf_rules.specs.Threads.{HasSignature, HasPreludeContract}
+use Rattle.vf_rules.specs.Lemmas.{LemmaTree, LemmaHolds}
 
 -- the share 1, as a term
 abbrev pub all_of_it : Term
@@ -84,15 +87,6 @@ call_store ts = stored (store_of ts) CurrentThread (Variable CurrentThread)
 -- the store of a function type's contract at a call: the arguments, the thread, and the called value
 abbrev pub pointer_store : List Term → Term → terms.Store
 pointer_store ts t = stored (call_store ts) This t
-
--- a function of the program that is no prelude function has a signature
-pub record HasSignature (p : ProgramTree) (g : Identity) (signature : Signature) : Type 0 where
-  pub outside : prelude_named g ≡ None
-  pub number : ℕ
-  pub function : FunctionTree
-  pub named : function_named p g ≡ Some number
-  pub is : slice_get p.functions number ≡ Some function
-  pub signature_is : function.signature ≡ signature
 
 -- the contract of a function, with what a call of it needs: as many parameters, and sorts that have values
 pub record HasContract (e : Environment) (f : FunctionTree) (k : ContractTree) : Type 0 where
@@ -174,14 +168,49 @@ pub data Accepts (e : Environment) (p : ProgramTree) (f : FunctionTree) (k : Con
       → Accepts e p f k soon soon next (receiving target (symbol y) (assuming_all st (facts_of_type (Integer types.Int) (symbol y)))) → Accepts e p f k now soon n st
   do_print_int : {now soon : List Loop} {n : ℕ} {st : SymbolicState} (target : Option ℕ) (g : Identity) (a : ExpressionTree) (place : Place) (next : ℕ) (t : Term) → slice_get f.steps n ≡ Some (Call target g (a ∷ []) place next) → prelude_named g ≡ Some PrintInt
       → Evaluates e st.path st.locals a t → Accepts e p f k soon soon next st → Accepts e p f k now soon n st
+  do_prelude : {now soon : List Loop} {n : ℕ} {st : SymbolicState} (target : Option ℕ) (g : Identity) (operands : List ExpressionTree) (place : Place) (next : ℕ) (function : PreludeFunction) (contract : ContractTree) (ts : List Term) (outs : List Outcome)
+      → slice_get f.steps n ≡ Some (Call target g operands place next) → prelude_named g ≡ Some function → HasPreludeContract e p function contract → st.names CurrentThread ≡ Some (Variable CurrentThread) → AreInhabited e contract.sorts
+      → ((signature_of function).result ≡ Void → target ≡ None) → EvaluatesAll e st.path st.locals operands ts → length ts ≡ contract.parameters → AreSorted e st.path contract.sorts ts
+      → Consume e p contract.sorts all_of_it contract.requires_this (call_store ts) st (λ s1 st1.
+      (y : ℕ) × IsNew y all_of_it s1 [] st1 × AreFixed contract s1
+      × Produce e p contract.sorts all_of_it contract.ensures_this (stored s1 Result (symbol y)) (assuming_all st1 (facts_of_result (signature_of function).result (symbol y)))
+      (λ s2 st2. IsAmong outs s2 (receiving target (symbol y) st2)))
+      → ((s : terms.Store) (su : SymbolicState) → IsAmong outs s su → Accepts e p f k soon soon next su) → Accepts e p f k now soon n st
+  do_allocate_ints : {now soon : List Loop} {n : ℕ} {st : SymbolicState} (x : ℕ) (a : ExpressionTree) (place : Place) (next y : ℕ) (t : Term) → slice_get f.steps n ≡ Some (AllocateInts x a place next) → Evaluates e st.path st.locals a t → IsNumber e st.path t
+      → Entails e st.path (Holds (Compare LessEqual (ghost.Number (pos 0)) t)) → IsFresh y st → Accepts e p f k soon soon next (with_local st x Null)
+      → Accepts e p f k soon soon next (with_local (assuming_all (with_chunks st (st.chunks ++ row_chunk (symbol y) t None ∷ int_block_chunk (symbol y) t ∷ [])) (OfSort (symbol y) Pointers ∷ Holds (Compare NotEqual (symbol y) Null) ∷ [])) x (symbol y))
+      → Accepts e p f k now soon n st
+  do_free_ints_null : {now soon : List Loop} {n : ℕ} {st : SymbolicState} (a : ExpressionTree) (place : Place) (next : ℕ) (t : Term) → slice_get f.steps n ≡ Some (FreeInts a place next)
+      → Evaluates e st.path st.locals a t → Entails e st.path (same t Null) → Accepts e p f k soon soon next st → Accepts e p f k now soon n st
+  do_free_ints : {now soon : List Loop} {n : ℕ} {st : SymbolicState} (a : ExpressionTree) (place : Place) (next : ℕ) (t u w long also : Term) (content : Option Term) (c d : SymbolicChunk) (mid left : List SymbolicChunk) → slice_get f.steps n ≡ Some (FreeInts a place next)
+      → Evaluates e st.path st.locals a t → Takes e st.path all_of_it c st.chunks mid → c.head ≡ row_head → c.arguments ≡ Some u ∷ Some long ∷ content ∷ [] → Entails e st.path (same t u)
+      → Takes e st.path all_of_it d mid left → d.head ≡ int_block_head → d.arguments ≡ Some w ∷ Some also ∷ [] → Entails e st.path (same t w) → Entails e st.path (same long also)
+      → Accepts e p f k soon soon next (with_chunks st left) → Accepts e p f k now soon n st
+  do_offset_zero : {now soon : List Loop} {n : ℕ} {st : SymbolicState} (x : ℕ) (a i : ExpressionTree) (place : Place) (next : ℕ) (t j : Term) → slice_get f.steps n ≡ Some (Offset x a i place next)
+      → Evaluates e st.path st.locals a t → Evaluates e st.path st.locals i j → Entails e st.path (same j (ghost.Number (pos 0))) → Accepts e p f k soon soon next (with_local st x t) → Accepts e p f k now soon n st
+  do_offset : {now soon : List Loop} {n : ℕ} {st : SymbolicState} (x : ℕ) (a i : ExpressionTree) (place : Place) (next : ℕ) (t j u long : Term) (content : Option Term) (c : SymbolicChunk) (others : List SymbolicChunk) → slice_get f.steps n ≡ Some (Offset x a i place next)
+      → Evaluates e st.path st.locals a t → Evaluates e st.path st.locals i j → IsNumber e st.path j → Removes c st.chunks others → c.head ≡ row_head → c.arguments ≡ Some u ∷ Some long ∷ content ∷ [] → Entails e st.path (same t u)
+      → Entails e st.path (Holds (Compare LessEqual (ghost.Number (pos 0)) j)) → Entails e st.path (Holds (Compare LessEqual j long)) → Accepts e p f k soon soon next (with_local st x (PointerSum t j)) → Accepts e p f k now soon n st
+  do_load_at : {now soon : List Loop} {n : ℕ} {st : SymbolicState} (x : ℕ) (a i : ExpressionTree) (place : Place) (next : ℕ) (t j u long list index item : Term) (c : SymbolicChunk) (others : List SymbolicChunk) → slice_get f.steps n ≡ Some (LoadAt x a i place next)
+      → Evaluates e st.path st.locals a t → Evaluates e st.path st.locals i j → IsNumber e st.path j → Removes c st.chunks others → c.head ≡ row_head → c.arguments ≡ Some u ∷ Some long ∷ Some list ∷ []
+      → Finds e st.path t j u index → IsInside e st.path index long → IsItem e st.path list index item
+      → Accepts e p f k soon soon next (with_local (assuming_all st (facts_of_type (Integer types.Int) item)) x item) → Accepts e p f k now soon n st
+  do_store_at : {now soon : List Loop} {n : ℕ} {st : SymbolicState} (a i b : ExpressionTree) (place : Place) (next : ℕ) (t j w u long index : Term) (content new : Option Term) (c : SymbolicChunk) (others : List SymbolicChunk) → slice_get f.steps n ≡ Some (StoreAt a i b place next)
+      → Evaluates e st.path st.locals a t → Evaluates e st.path st.locals i j → Evaluates e st.path st.locals b w → IsNumber e st.path j → EntailsAll e st.path (facts_of_type (Integer types.Int) w)
+      → Takes e st.path all_of_it c st.chunks others → c.head ≡ row_head → c.arguments ≡ Some u ∷ Some long ∷ content ∷ [] → Finds e st.path t j u index → IsInside e st.path index long → Becomes e st.path long index w content new
+      → Accepts e p f k soon soon next (with_chunks st (others ++ row_chunk u long new ∷ [])) → Accepts e p f k now soon n st
   may_drop : {now soon : List Loop} {n : ℕ} {st : SymbolicState} → Infeasible e st.path → Accepts e p f k now soon n st
   may_change : {now soon : List Loop} {n : ℕ} {st new : SymbolicState} → Changes e st new → Accepts e p f k now soon n new → Accepts e p f k now soon n st
+  may_arrange : {now soon : List Loop} {n : ℕ} {st new : SymbolicState} → Arranges e st new → Accepts e p f k now soon n new → Accepts e p f k now soon n st
   may_open : {now soon : List Loop} {n : ℕ} {st : SymbolicState} (outs : List Outcome) → Opens e p st outs → ((s : terms.Store) (su : SymbolicState) → IsAmong outs s su → Accepts e p f k now soon n su) → Accepts e p f k now soon n st
   may_close : {now soon : List Loop} {n : ℕ} {st : SymbolicState} (outs : List Outcome) → Closes e p st outs → ((s : terms.Store) (su : SymbolicState) → IsAmong outs s su → Accepts e p f k now soon n su) → Accepts e p f k now soon n st
   may_split : {now soon : List Loop} {n : ℕ} {st : SymbolicState} (t : Term) → Accepts e p f k now soon n (assuming st (Holds t)) → Accepts e p f k now soon n (assuming st (Holds (Not t))) → Accepts e p f k now soon n st
   may_leak : {now soon : List Loop} {n : ℕ} {st : SymbolicState} (a : Assertion) (sorts : List Sort) (store : terms.Store) (outs : List Outcome) → AreNamesSorted e st.path sorts store → Consume e p sorts all_of_it a store st (IsAmong outs)
       → ((s : terms.Store) (su : SymbolicState) → IsAmong outs s su → Accepts e p f k now soon n su) → Accepts e p f k now soon n st
   may_know : {now soon : List Loop} {n : ℕ} {st : SymbolicState} (a : Assertion) (sorts : List Sort) (store : terms.Store) (outs : List Outcome) → HoldsOfNothing e st.path sorts a store → Produce e p sorts all_of_it a store st (IsAmong outs)
+      → ((s : terms.Store) (su : SymbolicState) → IsAmong outs s su → Accepts e p f k now soon n su) → Accepts e p f k now soon n st
+  may_call_lemma : {now soon : List Loop} {n : ℕ} {st : SymbolicState} (lemma : LemmaTree) (ts : List Term) (outs : List Outcome) → LemmaHolds e p lemma → AreInhabited e lemma.contract.sorts → length ts ≡ lemma.contract.parameters → AreSorted e st.path lemma.contract.sorts ts
+      → Consume e p lemma.contract.sorts all_of_it lemma.contract.requires_this (call_store ts) st (λ s1 st1. AreFixed lemma.contract s1 × Produce e p lemma.contract.sorts all_of_it lemma.contract.ensures_this s1 st1 (IsAmong outs))
       → ((s : terms.Store) (su : SymbolicState) → IsAmong outs s su → Accepts e p f k now soon n su) → Accepts e p f k now soon n st
   may_enter : {now soon : List Loop} {n : ℕ} {st : SymbolicState} (loop : Loop) → loop.node ≡ n → IsLoop e p loop → Enters e p loop st
       → ((s : terms.Store) (su : SymbolicState) → IsAmong loop.outs s su → Accepts e p f k now (loop ∷ soon) n su) → Accepts e p f k now soon n st

@@ -12,5 +12,9 @@ pub mod Loops
 pub mod LoopLaws
 pub mod Cases
 pub mod Evaluate
+pub mod Arrays
+pub mod Mutexes
+pub mod Threads
+pub mod Lemmas
 pub mod Accept
 pub mod Claims

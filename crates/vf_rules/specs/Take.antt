@@ -7,6 +7,7 @@ use Rattle.vf_meaning.specs.Fractions.{sum, product, IsPositive}
 use Rattle.vf_meaning.specs.Ghost.{Compare, PredicateValue}
 use Rattle.vf_meaning.specs.Valuations.{Valuation}
 use Rattle.vf_meaning.specs.Assertions.{Named, Applied, Environment}
+use Rattle.vf_meaning.specs.Chunks.{IntCells, primitive}
 use Rattle.vf_meaning.specs.SatisfactionLaws.{HeadsOneLocation}
 use Rattle.vf_rules.specs.Terms.{Term, in_row}
 use Rattle.vf_rules.specs.States.{Fact, Holds, ChunkHead, CellOf, Of, SymbolicChunk, SymbolicState, value_in, Meets, Entails, assuming_all, with_chunks}
@@ -78,9 +79,31 @@ pub record Joins (e : Environment) (path : List Fact) (c d both : SymbolicChunk)
   pub both_is : both ≡ record { share = total; head = c.head; arguments = Some first ∷ joined others more }
   pub facts_are : facts ≡ equalities others more
 
+-- two rows of int cells at one place and of one length, and the one row that they are: with the sum of their shares, and what either knows
+pub record JoinsRows (e : Environment) (path : List Fact) (c d both : SymbolicChunk) (facts : List Fact) : Type 0 where
+  pub ints : Identity
+  pub first : Term
+  pub long : Term
+  pub held : Option Term
+  pub second : Term
+  pub also : Term
+  pub other : Option Term
+  pub known : primitive ints ≡ IntCells
+  pub head : c.head ≡ Of (Named ints)
+  pub one_head : d.head ≡ c.head
+  pub arguments : c.arguments ≡ Some first ∷ Some long ∷ held ∷ []
+  pub further : d.arguments ≡ Some second ∷ Some also ∷ other ∷ []
+  pub one_place : Entails e path (same first second)
+  pub one_length : Entails e path (same long also)
+  pub total : Term
+  pub sums : IsSumOf e path total c.share d.share
+  pub both_is : both ≡ record { share = total; head = c.head; arguments = Some first ∷ Some long ∷ joined (held ∷ []) (other ∷ []) }
+  pub facts_are : facts ≡ equalities (held ∷ []) (other ∷ [])
+
 -- in a heap an older chunk takes in a younger one
 pub data Merges (e : Environment) (path : List Fact) (facts : List Fact) : List SymbolicChunk → List SymbolicChunk → Type 0 where
   merges_here : {c d both : SymbolicChunk} {cs ds : List SymbolicChunk} → Removes d cs ds → Joins e path c d both facts → Merges e path facts (c ∷ cs) (both ∷ ds)
+  merges_rows : {c d both : SymbolicChunk} {cs ds : List SymbolicChunk} → Removes d cs ds → JoinsRows e path c d both facts → Merges e path facts (c ∷ cs) (both ∷ ds)
   merges_later : {c : SymbolicChunk} {cs ds : List SymbolicChunk} → Merges e path facts cs ds → Merges e path facts (c ∷ cs) (c ∷ ds)
 
 -- known arguments

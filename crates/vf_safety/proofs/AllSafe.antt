@@ -9,21 +9,22 @@ use Rattle.vf_safety.specs.Safe.{Duty, Duties, Safe, left_after}
 use Rattle.vf_safety.specs.Laws.{AreOfTypes, AreAccepted, AcceptedCallsAreSafe, AcceptedThreadsAreSafe}
 use Rattle.vf_safety.proofs.Duties.{first_done}
 use Rattle.vf_safety.proofs.Typing.{AllMayBe, is_may}
-use Rattle.vf_safety.proofs.Bodies.{FunctionsSafe, AllSafe}
+use Rattle.vf_safety.proofs.Ready.{FunctionsSafe, AllSafe}
 use Rattle.vf_safety.proofs.Functions.{function_safe}
 use Rattle.vf_safety.proofs.Claims.{types_safe}
 
-module _ (e : Environment) (p : ProgramTree) (t : ℕ) where
-  all_safe : AreAccepted e p → AreClaimsKept e p → (n : ℕ) → AllSafe e p t n
-  all_safe accepted claims n = record { functions = functions n; types = types_safe e p t claims n (functions n) }
+module _ (e : Environment) (p : ProgramTree) where
+  all_safe : AreAccepted e p → AreClaimsKept e p → (n t : ℕ) → AllSafe e p t n
+  all_safe accepted claims n t = record { functions = functions n t; types = types_safe e p t claims n (functions n t) }
     where
-      functions : (n : ℕ) → FunctionsSafe e p t n
-      functions zero j l number f k is has = absurd (no_less j l)
+      functions : (n t : ℕ) → FunctionsSafe e p t n
+      functions zero t j l number f k is has = absurd (no_less j l)
         where
           no_less : (j : ℕ) → j < 0 → ⊥
           no_less j l = omega (arith, l)
-      functions (suc n) j l number f k is has =
-          function_safe e p t number f k is (accepted number f k is has) j (record { functions = λ i li. functions n i (less i j n li l); types = λ i li. types_safe e p t claims n (functions n) i (less i j n li l) })
+      functions (suc n) t j l number f k is has =
+          function_safe e p t number f k is (accepted number f k is has) j
+          (λ u. record { functions = λ i li. functions n u i (less i j n li l); types = λ i li. types_safe e p u claims n (functions n u) i (less i j n li l) })
         where
           less : (i j n : ℕ) → i < j → j < suc n → i < n
           less i j n a b = omega (arith, a, b)
@@ -37,7 +38,7 @@ all_may (t ∷ types) (w ∷ ws) h = let (long, rest) = all_may types ws h.1 in 
 pub accepted_calls_are_safe : AcceptedCallsAreSafe
 accepted_calls_are_safe e p accepted claims t duties number f k arguments names rest own call callers target n continues =
     let (long, may) = all_may f.signature.parameters arguments call.types in
-    (all_safe e p t accepted claims (suc n)).functions n (omega arith) number f k call.function call.contract duties arguments names callers target call.passed rest own (long ∙ sym (call.contract).parameters) may call.begins call.thread call.of_sorts call.required call.typed call.sums continues
+    (all_safe e p accepted claims (suc n) t).functions n (omega arith) number f k call.function call.contract duties arguments names callers target call.passed rest own (long ∙ sym (call.contract).parameters) may call.begins call.thread call.of_sorts call.required call.typed call.sums continues
 
 pub accepted_threads_are_safe : AcceptedThreadsAreSafe
 accepted_threads_are_safe e p accepted claims t number f k arguments names own rest none call n =

@@ -16,15 +16,15 @@ use Rattle.vf_model.specs.Memory.{is_struct_block}
 use Rattle.vf_model.specs.Races.{TouchesCell}
 use Rattle.vf_model.specs.Steps.{act_of}
 use Rattle.vf_model.proofs.FreeBlocks.{wanted_granted, least_granted}
-use Rattle.vf_meaning.specs.Fractions.{whole, IsPositive}
+use Rattle.vf_meaning.specs.Fractions.{nought, whole, IsPositive}
 use Rattle.vf_meaning.specs.Valuations.{Valuation}
 use Rattle.vf_meaning.specs.Assertions.{BlockOf, Environment}
-use Rattle.vf_meaning.specs.Parts.{Location, FieldCell, StructBlock, CellOf, Bare, Part, nothing, single, ◌⊕◌, IsSum, HasNone}
+use Rattle.vf_meaning.specs.Parts.{Location, FieldCell, IndexCell, StructBlock, IntBlock, MutexAt, HeldAt, HandleAt, Content, CellOf, Bare, Part, nothing, single, ◌⊕◌, IsSum, HasNone}
 use Rattle.vf_meaning.specs.Fits.{Fits}
 use Rattle.vf_meaning.specs.FitLaws.{FitTogether, IsAllOf}
 use Rattle.vf_meaning.specs.Chunks.{start_of}
 use Rattle.vf_meaning.specs.ShareOuts.{location_in, OwnsFor}
-use Rattle.vf_meaning.proofs.Parts.{sums_turn, sums_regroup, nothing_is_neutral, not_nought, nought_or_positive, in_left, sum_at, whole_is_alone}
+use Rattle.vf_meaning.proofs.Parts.{sums_turn, sums_regroup, nothing_is_neutral, not_nought, nought_or_positive, in_left, in_either, sum_at, whole_is_alone}
 use Rattle.vf_meaning.proofs.FitSteps.{fields_are_there, structs_are_there, blocks_are_added, block_here, block_elsewhere, removed_here, removed_elsewhere, own_identity, new_sum, sum_left}
 use Rattle.vf_rules.specs.Terms.{Term}
 use Rattle.vf_rules.specs.States.{Fact, CellOf, Of, SymbolicChunk, value_in, Meets, HeadMeans, ChunkMeans, ChunksMean}
@@ -32,7 +32,7 @@ use Rattle.vf_rules.specs.States as states
 use Rattle.vf_rules.specs.Types.{IsTypedPart}
 use Rattle.vf_rules.specs.Accept.{all_of_it, field_at, new_chunks, TakesFields}
 use Rattle.vf_rules.proofs.Takes.{same_value, takes_parted}
-use Rattle.vf_safety.specs.Safe.{IsShared, IsShaped}
+use Rattle.vf_safety.specs.Safe.{IsShared, IsSharedPlace, IsShaped}
 use Rattle.vf_safety.proofs.Steps.{turn_of, typed_sum, typed_single}
 use Rattle.vf_safety.proofs.Structs.{OwnsStruct, owns_block, owns_cell, all_of_struct}
 
@@ -172,6 +172,38 @@ struct_unshared p m b g d shared =
       | inr other ↦ block_elsewhere m b d (new_struct p g) other
     ]
 
+pub struct_unmoved : (p : ProgramTree) (m : Memory) (b : ℕ) (g : Identity) → block_at m b ≡ None → (d : ℕ) → IsShared (block_at m d) → block_at (finite.insert m b (new_struct p g)) d ≡ block_at m d
+struct_unmoved p m b g free d shared =
+    elim (cases_eq d b) [
+      | inl e ↦ absurd (subst IsShared (ap (block_at m) e ∙ free) shared)
+      | inr other ↦ block_elsewhere m b d (new_struct p g) other
+    ]
+
+mutex_block : {b c : ℕ} {g : Identity} → MutexAt b ≡ StructBlock c g → ⊥
+mutex_block e = cc
+
+handle_block : {b c : ℕ} {g : Identity} → HandleAt b ≡ StructBlock c g → ⊥
+handle_block e = cc
+
+mutex_field : {b c i : ℕ} {g : Identity} → MutexAt b ≡ FieldCell c g i → ⊥
+mutex_field e = cc
+
+handle_field : {b c i : ℕ} {g : Identity} → HandleAt b ≡ FieldCell c g i → ⊥
+handle_field e = cc
+
+-- a struct has no place that is shared
+struct_none : {P : Option Value → Type 0} (q : Part) (b : ℕ) (g : Identity) (i n : ℕ) (k : Location) (c : Content) → IsSharedPlace k → OwnsStruct P q b g i n → q k c ≡ nought
+struct_none q b g i n (MutexAt d) c shared owns = owns.elsewhere (MutexAt d) mutex_block (λ j a l. mutex_field) c
+struct_none q b g i n (HandleAt d) c shared owns = owns.elsewhere (HandleAt d) handle_block (λ j a l. handle_field) c
+struct_none q b g i n (FieldCell d h j) c shared owns = absurd shared
+struct_none q b g i n (IndexCell d j) c shared owns = absurd shared
+struct_none q b g i n (StructBlock d h) c shared owns = absurd shared
+struct_none q b g i n (IntBlock d) c shared owns = absurd shared
+struct_none q b g i n (HeldAt d) c shared owns = absurd shared
+
+pub known_struct : {P : Option Value → Type 0} (q : Part) (b : ℕ) (g : Identity) (i n : ℕ) (f all : Part) (k : Location) (c : Content) → IsSharedPlace k → OwnsStruct P q b g i n → IsSum q f all → IsPositive (all k c) → IsPositive (f k c)
+known_struct q b g i n f all k c shared owns sums h = elim (in_either q f all sums k c h) [ inl y ↦ absurd (not_nought (q k c) (struct_none q b g i n k c shared owns) y) | inr y ↦ y ]
+
 unset_at : (n j : ℕ) → j < n → slice_get (unset_cells n) j ≡ Some None
 unset_at zero j l = absurd (no j l)
   where
@@ -256,6 +288,13 @@ pub removed_unshared : (m : Memory) (b d : ℕ) → IsShared (block_at (finite.r
 removed_unshared m b d shared =
     elim (cases_eq d b) [
       | inl e ↦ absurd (subst IsShared (ap (block_at (finite.remove m b)) e ∙ removed_here m b) shared)
+      | inr other ↦ removed_elsewhere m b d other
+    ]
+
+pub removed_unmoved : (m : Memory) (b : ℕ) {g : Identity} {cells : List (Option Value)} → block_at m b ≡ Some (Struct g cells) → (d : ℕ) → IsShared (block_at m d) → block_at (finite.remove m b) d ≡ block_at m d
+removed_unmoved m b there d shared =
+    elim (cases_eq d b) [
+      | inl e ↦ absurd (subst IsShared (ap (block_at m) e ∙ there) shared)
       | inr other ↦ removed_elsewhere m b d other
     ]
 

@@ -1,5 +1,5 @@
 -- A call through a pointer as the machine does it.
-use Rattle.std.proofs.Common.{◌≡◌, ℕ, Bool, true, false, cond, List, [], ◌∷◌, length, slice_get, Option, Some, None, refl, sym, ap, subst, ◌∙◌}
+use Rattle.std.proofs.Common.{◌≡◌, ℕ, Bool, true, false, cond, List, [], ◌∷◌, slice_get, Option, Some, None, refl, sym, ap, subst, ◌∙◌}
 use Rattle.std.specs.Prelude.{IsTrue}
 use Rattle.vf_base.specs.declared.place.Place.{Place}
 use Rattle.vf_tree.specs.Core.{Identity, Signature, ExpressionTree, CallPointer, ProgramTree}
@@ -22,9 +22,9 @@ use Rattle.vf_model.proofs.Equality.{signatures_told}
 use Rattle.vf_meaning.proofs.Parts.{sums_turn, nothing_is_neutral}
 use Rattle.vf_rules.specs.States.{meaning}
 use Rattle.vf_rules.specs.Types.{IsTypedPart}
-use Rattle.vf_rules.specs.Accept.{HasSignature}
-use Rattle.vf_safety.specs.Safe.{Duty, Duties, Within, duty_added, Promised, event_of, IsShaped, Went}
-use Rattle.vf_safety.proofs.Steps.{turn_of, set_own, set_other, set_length}
+use Rattle.vf_rules.specs.Threads.{HasSignature}
+use Rattle.vf_safety.specs.Safe.{Duty, Duties, duty_added, Promised, event_of, IsShaped, no_exchange, Went}
+use Rattle.vf_safety.proofs.Steps.{InCall, turn_of, set_own, set_other}
 
 -- fixpoints change no claims
 interpreted_claims : (claims : Identity → Identity → Bool) (fs : List FixpointTree) → (interpreted claims fs).claims ≡ claims
@@ -64,7 +64,7 @@ claimed_function e type (values.Fraction d) h = absurd (no h)
     no h = cc
 
 -- a function has its own signature
-own_signature : (want own : Signature) → own ≡ want → same_signature own want ≡ true
+pub own_signature : (want own : Signature) → own ≡ want → same_signature own want ≡ true
 own_signature want own is = (signatures_told own want).1 is
 
 found_signature : (p : ProgramTree) (g : Identity) (signature : Signature) (h : HasSignature p g signature) → same_signature (h.function).signature signature ≡ true → has_signature p g signature (prelude_named g) ≡ true
@@ -83,16 +83,20 @@ pointer_act p s t frame callers target a signature operands place next g h ws po
     ∙ ap (λ z. cond z (calls_named p turn target g ws place next (prelude_named g)) (Faults faults.Pointer place)) (found_signature p g signature h (own_signature signature (h.function).signature h.signature_is))
     ∙ ap (calls_named p turn target g ws place next) h.outside ∙ ap (calls_number p turn target ws place next) h.named ∙ ap (calls_body turn target ws place next h.number) h.is
 
-module _ (e : Environment) (p : ProgramTree) (t : ℕ) (duties : Duties) (S : Duties → Thread → Part → Type 0) where
+module _ (e : Environment) (p : ProgramTree) (t : ℕ) (duties : Duties) (S : ℕ → Duties → Thread → Part → Type 0) where
   -- a call with a duty is entered
   pub entered_went : (s : State) (frame : Frame) (callers frames : Thread) (d : Duty) (own rest all : Part) → IsSum own rest all → Fits all s.memory → IsTypedPart e p all → IsShaped p s.memory → slice_get s.threads t ≡ Some (frame ∷ callers)
-      → S (d ∷ duties) frames own → Within (length frames) (d ∷ duties) → depth s t ≡ d.below
-      → ((grant : ℕ) (call : Promise) → CallsPointer e p s (event_of t grant) call → Promised e call duties (d ∷ duties) own) → ((result : Option Value) → Returns p s t result → ⊥) → Went e p t S duties s (with_frames (turn_of s t frame callers) frames) rest
+      → S t (d ∷ duties) frames own → InCall frames (d ∷ duties) → depth s t ≡ d.below
+      → ((grant : ℕ) (call : Promise) → CallsPointer e p s (event_of t grant) call → Promised e call duties (d ∷ duties) own) → ((result : Option Value) → Returns p s t result → ⊥) → Went e p t S no_exchange duties s (with_frames (turn_of s t frame callers) frames) rest all
   entered_went s frame callers frames d own rest all sums fits typed shaped there safe within here promised inside = record {
     frames = frames;
     owing = d ∷ duties;
     own = own;
+    given = nothing;
     leaked = nothing;
+    lost = nothing;
+    handed = refl;
+    parted = nothing_is_neutral nothing;
     others = rest;
     all = all;
     given_up = sums_turn nothing rest rest (nothing_is_neutral rest);
@@ -101,12 +105,16 @@ module _ (e : Environment) (p : ProgramTree) (t : ℕ) (duties : Duties) (S : Du
     typed = typed;
     shaped = shaped;
     now = set_own s.threads t frames (frame ∷ callers) there;
-    alone = λ u other. set_other s.threads t u frames other;
-    number = set_length s.threads t frames;
-    unshared = λ b h. refl;
-    within = within;
+    alone = λ u other unstarted. set_other s.threads t u frames other;
+    begun = tt;
+    unshared = λ b apart h. refl;
+    unmoved = λ b apart h. refl;
+    known = λ l c shared apart h. h;
+    settled = tt;
+    within = within.within;
     owes = duty_added d duties (sym here);
     going = λ h. safe;
     called = promised;
     leaves = λ result r n h. absurd (inside result r);
+    finished = λ none. absurd (within.some_frames none);
   }

@@ -1,5 +1,5 @@
 -- Reading and writing a field.
-use Rattle.std.proofs.Common.{◌≡◌, ℕ, zero, suc, ◌<◌, Bool, true, false, cond, List, [], ◌∷◌, length, slice_get, slice_set, Option, Some, None, refl, sym, ap, ap₂, subst, ◌∙◌, inl, inr, arith}
+use Rattle.std.proofs.Common.{◌≡◌, ◌≢◌, ℕ, zero, suc, ◌<◌, Bool, true, false, cond, List, [], ◌∷◌, length, slice_get, slice_set, Option, Some, None, refl, sym, ap, ap₂, subst, ◌∙◌, inl, inr, arith}
 use Rattle.std.specs.Prelude.{nat_lt}
 use Rattle.std.proofs.lemmas.Bool.{cases_eq}
 use Rattle.std.proofs.lemmas.Bool.Decides.{nat_tests}
@@ -14,13 +14,13 @@ use Rattle.vf_model.specs.Accesses.{field_count, touch_of, loads_content, loads,
 use Rattle.vf_model.specs.Races.{TouchesCell}
 use Rattle.vf_model.specs.Steps.{act_of}
 use Rattle.vf_meaning.specs.Fractions.{nought, whole, sum, IsPositive}
-use Rattle.vf_meaning.specs.Parts.{Location, FieldCell, Content, CellOf, Part, single, IsSum}
+use Rattle.vf_meaning.specs.Parts.{Location, FieldCell, IndexCell, StructBlock, IntBlock, MutexAt, HeldAt, HandleAt, Content, CellOf, Part, single, IsSum}
 use Rattle.vf_meaning.specs.Fits.{Fits}
 use Rattle.vf_meaning.specs.Chunks.{start_of}
 use Rattle.vf_meaning.specs.ShareOuts.{location_in}
 use Rattle.vf_meaning.proofs.Parts.{sums_regroup, nought_or_positive, not_nought, in_left, sum_at, whole_is_alone, single_here}
 use Rattle.vf_meaning.proofs.FitSteps.{fields_are_there, block_here, block_elsewhere, own_identity, sum_left}
-use Rattle.vf_safety.specs.Safe.{IsShared, IsShaped}
+use Rattle.vf_safety.specs.Safe.{IsShared, IsSharedPlace, IsShaped}
 use Rattle.vf_safety.proofs.Steps.{turn_of}
 
 some_same : {A : Type 0} {x y : A} → Some x ≡ Some y → x ≡ y
@@ -96,6 +96,24 @@ store_unshared m b f held w h d shared =
       | inl e ↦ absurd (subst IsShared (ap (λ z. block_at z d) now ∙ ap (block_at _) e ∙ block_here m b (Struct f.structure (slice_set h.cells f.index (Some w)))) shared)
       | inr other ↦ ap (λ z. block_at z d) now ∙ block_elsewhere m b d (Struct f.structure (slice_set h.cells f.index (Some w))) other
     ]
+
+pub store_unmoved : (m : Memory) (b : ℕ) (f : Field) (held : Option Value) (w : Value) → FieldThere m b f held → (d : ℕ) → IsShared (block_at m d) → block_at (written m (the_cell b f) w) d ≡ block_at m d
+store_unmoved m b f held w h d shared =
+    let now = ap (written_in m (the_cell b f) w) h.block in
+    elim (cases_eq d b) [
+      | inl e ↦ absurd (subst IsShared (ap (block_at m) e ∙ h.block) shared)
+      | inr other ↦ ap (λ z. block_at z d) now ∙ block_elsewhere m b d (Struct f.structure (slice_set h.cells f.index (Some w))) other
+    ]
+
+-- no field is shared by its place
+pub other_field : (d : ℕ) (f : Field) (k : Location) → IsSharedPlace k → k ≢ FieldCell d f.structure f.index
+other_field d f (MutexAt b) shared h = cc
+other_field d f (HandleAt b) shared h = cc
+other_field d f (FieldCell b g i) shared h = absurd shared
+other_field d f (IndexCell b i) shared h = absurd shared
+other_field d f (StructBlock b g) shared h = absurd shared
+other_field d f (IntBlock b) shared h = absurd shared
+other_field d f (HeldAt b) shared h = absurd shared
 
 -- who owns the whole of a location with a part of what they own, owns the whole of it
 pub whole_of : (q r own rest all : Part) (m : Memory) (l k : Location) (c : Content) → l ≡ k → q ≡ single l c whole → IsSum q r own → IsSum own rest all → Fits all m → own k c ≡ whole

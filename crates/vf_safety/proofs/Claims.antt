@@ -29,7 +29,9 @@ use Rattle.vf_rules.proofs.Opening.{completed, completed_means, completed_sorted
 use Rattle.vf_safety.specs.Safe.{Duties, DoneAt, Safe, left_after, returned, IsResult, Continues}
 use Rattle.vf_safety.proofs.Steps.{apart, together, typed_of_left}
 use Rattle.vf_safety.proofs.Typing.{AllMayBe}
-use Rattle.vf_safety.proofs.Bodies.{FunctionSafe, TypeSafe, FunctionsSafe, TypesSafe, positive_whole, nothing_left, names_sorted, result_store_sorted, result_or, with_result_means, with_result_sorted, result_value, result_facts, result_bound, consumed_ensures, result_means, override, override_means, sorted_arguments, not_result}
+use Rattle.vf_safety.proofs.Ready.{FunctionSafe, TypeSafe, FunctionsSafe, TypesSafe, positive_whole, nothing_left, names_sorted, result_store_sorted}
+use Rattle.vf_safety.proofs.CallSteps.{result_or, with_result_means, with_result_sorted, result_value, result_facts, result_bound, sorted_arguments}
+use Rattle.vf_safety.proofs.Returns.{consumed_ensures, result_means, override, override_means, not_result}
 use Rattle.vf_safety.proofs.Functions.{row_of, zero_plus, types_met, sorts_met, begins_mean, neutral, symbol_is}
 
 module _ (e : Environment) (p : ProgramTree) (t : ℕ) where

@@ -26,7 +26,8 @@ use Rattle.vf_rules.specs.Produce.{Produce}
 use Rattle.vf_rules.specs.Laws.{IsAmong}
 use Rattle.vf_rules.specs.Predicates.{store_of, AreInhabited}
 use Rattle.vf_rules.specs.Loops.{OfLocal, Changing, facts_of_known, LocalsCome, Loop, IsLoop, Comes, Enters}
-use Rattle.vf_rules.specs.Accept.{all_of_it, call_store, pointer_store, with_local, receiving, beginning, HasContract, HasSignature, KeepsFixed, AreFixed, Accepts, do_set, do_if, do_call_pointer, do_return, may_enter, may_repeat, IsAcceptedFunction}
+use Rattle.vf_rules.specs.Accept.{all_of_it, call_store, pointer_store, with_local, receiving, beginning, HasContract, KeepsFixed, AreFixed, Accepts, do_set, do_if, do_call_pointer, do_return, may_enter, may_repeat, IsAcceptedFunction}
+use Rattle.vf_rules.specs.Threads.{HasSignature}
 use Rattle.vf_rules.specs.Claims.{before_claim, Refines, KeepsClaim}
 use Rattle.vf_rules.proofs.Terms.{stored_own}
 use Rattle.vf_rules.proofs.Takes.{equal_met}

@@ -22,7 +22,8 @@ use Rattle.vf_rules.proofs.Stands.{meets_more}
 use Rattle.vf_rules.proofs.Produces.{produced, type_met}
 use Rattle.vf_safety.proofs.Steps.{typed_of_left}
 use Rattle.vf_safety.proofs.Typing.{MayBe, AllMayBe}
-use Rattle.vf_safety.proofs.Bodies.{FunctionSafe, AllSafe, body_safe, positive_whole}
+use Rattle.vf_safety.proofs.Ready.{FunctionSafe, AllSafe, positive_whole}
+use Rattle.vf_safety.proofs.Bodies.{body_safe}
 
 some_same : {A : Type 0} {x y : A} → Some x ≡ Some y → x ≡ y
 some_same e = cc
@@ -114,7 +115,7 @@ begins_stand e f k arguments w long may begins of_sorts =
     }
 
 module _ (e : Environment) (p : ProgramTree) (t : ℕ) where
-  pub function_safe : (number : ℕ) (f : FunctionTree) (k : ContractTree) → slice_get p.functions number ≡ Some f → IsAcceptedFunction e p f k → (n : ℕ) → AllSafe e p t n → FunctionSafe e p t n number f k
+  pub function_safe : (number : ℕ) (f : FunctionTree) (k : ContractTree) → slice_get p.functions number ≡ Some f → IsAcceptedFunction e p f k → (n : ℕ) → ((u : ℕ) → AllSafe e p u n) → FunctionSafe e p t n number f k
   function_safe number f k is accepted n fewer duty arguments w callers target q r own long may begins thread of_sorts required typed sums continues =
       let parameters = (accepted.contract).parameters in
       let count : length arguments ≡ length f.signature.parameters = long ∙ parameters in

@@ -10,7 +10,7 @@ use Rattle.vf_meaning.specs.Parts.{Location, Content, Part, IsSum}
 use Rattle.vf_meaning.specs.Fits.{Fits}
 use Rattle.vf_meaning.proofs.FitSteps.{sum_left}
 use Rattle.vf_meaning.proofs.Parts.{sums_turn, in_left, in_right, sum_at, nought_or_positive, not_nought, whole_is_alone}
-use Rattle.vf_safety.specs.Safe.{Duties, Went, Safe}
+use Rattle.vf_safety.specs.Safe.{Duties, Exchange, Went, Exchanged, Safe}
 use Rattle.vf_safety.proofs.Steps.{apart}
 
 -- a part whose whole of a location is in what is not given up has the whole of it
@@ -26,31 +26,50 @@ still_owns off less own rest more all m l c s r both fits false h = in_right off
 
 module _ (e : Environment) (p : ProgramTree) (t : ℕ) where
   -- what was given up before a step is given up in it
-  gone : (S : Duties → Thread → Part → Type 0) (duties : Duties) (s new : State) (off rest more : Part) → IsSum off rest more → Went e p t S duties s new more → Went e p t S duties s new rest
-  gone S duties s new off rest more r w =
-      let other = apart rest off more w.leaked w.others (sums_turn off rest more r) w.given_up in
+  gone : (S : ℕ → Duties → Thread → Part → Type 0) (x : Exchange) (duties : Duties) (s new : State) (off rest more before : Part) → IsSum off rest more → Went e p t S x duties s new more before → Went e p t S x duties s new rest before
+  gone S x duties s new off rest more before r w =
+      let (lost, both, given_up) = apart rest off more w.lost w.others (sums_turn off rest more r) w.given_up in
+      let (leaked, leaks, parted) = apart w.given w.leaked w.lost off lost w.parted (sums_turn off w.lost lost both) in
       record {
         frames = w.frames;
         own = w.own;
-        leaked = other.0;
+        given = w.given;
+        leaked = leaked;
+        lost = lost;
+        handed = w.handed;
+        parted = parted;
         others = w.others;
         all = w.all;
-        given_up = other.2;
+        given_up = given_up;
         sums = w.sums;
         fits = w.fits;
         typed = w.typed;
         shaped = w.shaped;
         now = w.now;
         alone = w.alone;
-        number = w.number;
+        begun = w.begun;
         unshared = w.unshared;
+        unmoved = w.unmoved;
+        known = w.known;
+        settled = w.settled;
         owing = w.owing;
         within = w.within;
         owes = w.owes;
         going = w.going;
         called = w.called;
         leaves = w.leaves;
+        finished = w.finished;
       }
+
+  gone_exchanged : (S : ℕ → Duties → Thread → Part → Type 0) (duties : Duties) (s new : State) (off rest more before : Part) → IsSum off rest more → Exchanged e p t S duties s new more before → Exchanged e p t S duties s new rest before
+  gone_exchanged S duties s new off rest more before r x = record {
+    exchange = x.exchange;
+    offered = x.offered;
+    started = x.started;
+    went = λ taken remaining is sums.
+        let (further, both, whole_is) = apart taken remaining rest off more sums (sums_turn off rest more r) in
+        gone S x.exchange duties s new off remaining further before (sums_turn remaining off further both) (x.went taken further is whole_is);
+  }
 
   -- with more than a safe part a thread is safe, what is more being leaked
   pub leaving_safe : (duties : Duties) (n : ℕ) (frames : Thread) (off less own : Part) → IsSum off less own → Safe e p t duties n frames less → Safe e p t duties n frames own
@@ -62,6 +81,5 @@ module _ (e : Environment) (p : ProgramTree) (t : ℕ) where
       record {
         faultless = k.faultless;
         owned = λ touch new c l h covers at. let o = k.owned touch new c l h covers at in (o.0, still_owns off less own rest more all st.memory l o.0 s r both fits touch.writes o.1);
-        unstarted = k.unstarted;
-        goes = λ grant. gone (λ ds. Safe e p t ds n) duties st _ off rest more r (k.goes grant);
+        goes = λ grant going. gone_exchanged (λ u ds. Safe e p u ds n) duties st _ off rest more all r (k.goes grant going);
       }

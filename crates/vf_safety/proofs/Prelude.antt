@@ -1,5 +1,5 @@
 -- Calls of the prelude's functions that touch no memory.
-use Rattle.std.proofs.Common.{◌≡◌, ℕ, ◌≤◌, ℤ, pos, negsuc, List, [], ◌∷◌, length, slice_get, Option, Some, None, refl, ap, ◌∙◌, arith}
+use Rattle.std.proofs.Common.{◌≡◌, ℕ, ◌≤◌, ℤ, pos, negsuc, List, [], ◌∷◌, slice_get, Option, Some, None, refl, ap, ◌∙◌, arith}
 use Rattle.std.proofs.lemmas.Int.{ints}
 use Rattle.vf_base.specs.declared.place.Place.{Place}
 use Rattle.vf_base.specs.declared.int_type.IntType.TheVariants as types
@@ -20,8 +20,8 @@ use Rattle.vf_meaning.specs.Fits.{Fits}
 use Rattle.vf_meaning.specs.Kept.{Returns, Promise, CallsPointer}
 use Rattle.vf_meaning.proofs.Parts.{sums_turn, nothing_is_neutral}
 use Rattle.vf_rules.specs.Types.{IsTypedPart, IsOfType}
-use Rattle.vf_safety.specs.Safe.{Duties, Within, duties_same, event_of, IsShaped, Went}
-use Rattle.vf_safety.proofs.Steps.{turn_of, set_own, set_other, set_length}
+use Rattle.vf_safety.specs.Safe.{Duties, duties_same, event_of, IsShaped, no_exchange, Went}
+use Rattle.vf_safety.proofs.Steps.{InCall, turn_of, set_own, set_other}
 
 -- what a call of a prelude function does
 pub prelude_act : (p : ProgramTree) (s : State) (t : ℕ) (frame : Frame) (callers : Thread) (target : Option ℕ) (g : Identity) (operands : List ExpressionTree) (place : Place) (next : ℕ) (function : PreludeFunction) (ws : List Value)
@@ -52,14 +52,18 @@ pub result_then_step : (frame : Frame) (next : ℕ) (target : Option ℕ) (w : V
 result_then_step frame next None w = refl
 result_then_step frame next (Some x) w = refl
 
-module _ (e : Environment) (p : ProgramTree) (t : ℕ) (duties : Duties) (S : Duties → Thread → Part → Type 0) where
+module _ (e : Environment) (p : ProgramTree) (t : ℕ) (duties : Duties) (S : ℕ → Duties → Thread → Part → Type 0) where
   -- the run has ended, and nothing else has changed
   pub ended_went : (s : State) (frames : Thread) (own rest all : Part) (end : End) → IsSum own rest all → Fits all s.memory → IsTypedPart e p all → IsShaped p s.memory → slice_get s.threads t ≡ Some frames
-      → Within (length frames) duties → ((grant : ℕ) (call : Promise) → CallsPointer e p s (event_of t grant) call → ⊥) → ((result : Option Value) → Returns p s t result → ⊥) → Went e p t S duties s (ended s end) rest
+      → InCall frames duties → ((grant : ℕ) (call : Promise) → CallsPointer e p s (event_of t grant) call → ⊥) → ((result : Option Value) → Returns p s t result → ⊥) → Went e p t S no_exchange duties s (ended s end) rest all
   ended_went s frames own rest all end sums fits typed shaped there within direct inside = record {
     frames = frames;
     own = own;
+    given = nothing;
     leaked = nothing;
+    lost = nothing;
+    handed = refl;
+    parted = nothing_is_neutral nothing;
     others = rest;
     all = all;
     given_up = sums_turn nothing rest rest (nothing_is_neutral rest);
@@ -68,15 +72,19 @@ module _ (e : Environment) (p : ProgramTree) (t : ℕ) (duties : Duties) (S : Du
     typed = typed;
     shaped = shaped;
     now = there;
-    alone = λ u other. refl;
-    number = refl;
-    unshared = λ b h. refl;
+    alone = λ u other unstarted. refl;
+    begun = tt;
+    unshared = λ b apart h. refl;
+    unmoved = λ b apart h. refl;
+    known = λ l c shared apart h. h;
+    settled = tt;
     going = λ h. absurd (not_going h);
     owing = duties;
-    within = within;
+    within = within.within;
     owes = duties_same duties;
     called = λ grant call h. absurd (direct grant call h);
     leaves = λ result r n h. absurd (inside result r);
+    finished = λ none. absurd (within.some_frames none);
   }
     where
       not_going : Some end ≡ None → ⊥
@@ -84,11 +92,15 @@ module _ (e : Environment) (p : ProgramTree) (t : ℕ) (duties : Duties) (S : Du
 
   -- a thread with other frames and the same memory, after some output
   pub output_went : (s : State) (frame : Frame) (callers frames : Thread) (bytes : List ℕ) (own rest all : Part) → IsSum own rest all → Fits all s.memory → IsTypedPart e p all → IsShaped p s.memory → slice_get s.threads t ≡ Some (frame ∷ callers)
-      → S duties frames own → Within (length frames) duties → ((grant : ℕ) (call : Promise) → CallsPointer e p s (event_of t grant) call → ⊥) → ((result : Option Value) → Returns p s t result → ⊥) → Went e p t S duties s (with_frames (after_output (turn_of s t frame callers) bytes) frames) rest
+      → S t duties frames own → InCall frames duties → ((grant : ℕ) (call : Promise) → CallsPointer e p s (event_of t grant) call → ⊥) → ((result : Option Value) → Returns p s t result → ⊥) → Went e p t S no_exchange duties s (with_frames (after_output (turn_of s t frame callers) bytes) frames) rest all
   output_went s frame callers frames bytes own rest all sums fits typed shaped there safe within direct inside = record {
     frames = frames;
     own = own;
+    given = nothing;
     leaked = nothing;
+    lost = nothing;
+    handed = refl;
+    parted = nothing_is_neutral nothing;
     others = rest;
     all = all;
     given_up = sums_turn nothing rest rest (nothing_is_neutral rest);
@@ -97,13 +109,17 @@ module _ (e : Environment) (p : ProgramTree) (t : ℕ) (duties : Duties) (S : Du
     typed = typed;
     shaped = shaped;
     now = set_own s.threads t frames (frame ∷ callers) there;
-    alone = λ u other. set_other s.threads t u frames other;
-    number = set_length s.threads t frames;
-    unshared = λ b h. refl;
+    alone = λ u other unstarted. set_other s.threads t u frames other;
+    begun = tt;
+    unshared = λ b apart h. refl;
+    unmoved = λ b apart h. refl;
+    known = λ l c shared apart h. h;
+    settled = tt;
     going = λ h. safe;
     owing = duties;
-    within = within;
+    within = within.within;
     owes = duties_same duties;
     called = λ grant call h. absurd (direct grant call h);
     leaves = λ result r n h. absurd (inside result r);
+    finished = λ none. absurd (within.some_frames none);
   }

@@ -1,4 +1,9 @@
 pub mod Safe
 pub mod Laws
 pub mod Example
+pub mod Pair
 pub mod Counting
+pub mod Sharing
+pub mod Everything
+pub mod Refused
+pub mod ArrayLaws

@@ -1,0 +1,14 @@
+pub mod Beginnings
+pub mod Ends
+pub mod Masses
+pub mod Bounded
+pub mod Cells
+pub mod Asides
+pub mod Around
+pub mod Calls
+pub mod Bodies
+pub mod Accepted
+pub mod Reopened
+pub mod Walked
+pub mod Examples
+pub mod Nested

@@ -1,0 +1,6 @@
+pub mod Depths
+pub mod Proves
+pub mod Laws
+pub mod Calls
+pub mod Example
+pub mod Nesting

@@ -1,0 +1,32 @@
+//! Laws of accepted lemmas. Each function does nothing; its contract is the law.
+
+ghost use Rattle.vf_lemmas.specs.Calls.{CallingKeeps, ComponentsAreSmaller};
+ghost use Rattle.vf_lemmas.specs.Example.{LemmasAreAccepted};
+ghost use Rattle.vf_lemmas.specs.Laws.{AcceptedLemmasHold};
+ghost use Rattle.vf_lemmas.specs.Nesting.{NestingIsAccepted};
+
+/// Each accepted lemma gives, from every part of memory that satisfies its precondition, a part not
+/// greater that satisfies its postcondition; the difference is leaked, and is nothing where it does not leak.
+pub fn accepted_lemmas_hold()
+    ensures { AcceptedLemmasHold }
+{}
+
+/// A call of a lemma that holds, from any state, keeps what the state stands for, but for what is leaked.
+pub fn calling_keeps()
+    ensures { CallingKeeps }
+{}
+
+/// Each argument of a constructor's term is smaller than the term.
+pub fn components_are_smaller()
+    ensures { ComponentsAreSmaller }
+{}
+
+/// A lemma that opens a predicate and closes it again, and one that calls itself with the rest of a list, are accepted.
+pub fn lemmas_are_accepted()
+    ensures { LemmasAreAccepted }
+{}
+
+/// A lemma is accepted that calls itself with what is inside of its precondition's first part, a predicate without memory.
+pub fn nesting_is_accepted()
+    ensures { NestingIsAccepted }
+{}

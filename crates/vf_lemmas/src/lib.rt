@@ -1,0 +1,12 @@
+//! Lemmas: what is accepted as a lemma holds.
+//!
+//! The definitions stand in `specs/`; the code here is public functions with an empty body, each of
+//! which has a law as its contract.
+#![tactic(auto)]
+
+mod laws;
+
+pub use laws::{
+    accepted_lemmas_hold, calling_keeps, components_are_smaller, lemmas_are_accepted,
+    nesting_is_accepted,
+};

@@ -1,0 +1,35 @@
+-- Lemmas: contracts that are kept without a step of the machine, and what they give.
+use Rattle.std.specs.Prelude.{◌≡◌, ℕ, Bool, IsFalse, None}
+use Rattle.vf_tree.specs.Core.{ProgramTree}
+use Rattle.vf_meaning.specs.Fractions.{whole}
+use Rattle.vf_meaning.specs.Valuations.{Valuation}
+use Rattle.vf_meaning.specs.Assertions.{ContractTree, Environment}
+use Rattle.vf_meaning.specs.Sorts.{AreOfSorts}
+use Rattle.vf_meaning.specs.Parts.{Part, nothing, IsSum}
+use Rattle.vf_meaning.specs.Satisfaction.{Satisfies}
+use Rattle.vf_meaning.specs.Kept.{Ensures}
+use Rattle.vf_rules.specs.Types.{IsTypedPart}
+
+-- what falls where a lemma calls itself and leaves no whole cell: the size of the value of the parameter of a number, or the depth of the first part of the precondition
+pub data Fall : Type 0 where
+  OnArgument : ℕ → Fall
+  OnDepth : Fall
+
+-- A lemma: its contract; whether its body, or that of a lemma which it calls, leaks; and what falls where it calls itself
+pub record LemmaTree : Type 0 where
+  pub contract : ContractTree
+  pub leaks : Bool
+  pub falls : Fall
+
+-- What a lemma gives from a part: one not greater that satisfies the postcondition, the names of the precondition having their values, and the rest, which is leaked; it is nothing where the lemma does not leak
+pub record Gives (e : Environment) (lemma : LemmaTree) (under : Valuation) (p : Part) : Type 0 where
+  pub kept : Part
+  pub leaked : Part
+  pub sums : IsSum kept leaked p
+  pub ensured : Ensures e lemma.contract under None kept
+  pub unleaked : IsFalse lemma.leaks → leaked ≡ nothing
+
+-- a lemma holds: from each part that satisfies its precondition it gives one that satisfies its postcondition
+abbrev pub LemmaHolds : Environment → ProgramTree → LemmaTree → Type 0
+LemmaHolds e prog lemma =
+    (under : Valuation) (p : Part) → AreOfSorts e under lemma.contract.sorts → IsTypedPart e prog p → Satisfies e whole lemma.contract.requires_this under p → Gives e lemma under p

@@ -1,0 +1,239 @@
+-- Rows of int cells are made, split and joined, which changes nothing of what a state stands for.
+use Rattle.std.proofs.Common.{◌≡◌, ℕ, zero, suc, ◌≤◌, ◌+◌, pos, negsuc, true, List, [], ◌∷◌, ◌++◌, length, map, Option, Some, refl, sym, ap, ap₂, subst, subst₂, ◌∙◌, inl, arith}
+use Rattle.std.specs.Prelude.{ℤ, IsTrue, int_le}
+use Rattle.std.proofs.lemmas.Int.{ints}
+use Rattle.vf_tree.specs.Core.{LessEqual}
+use Rattle.vf_model.specs.Values.{Dyadic, Value, number_of}
+use Rattle.vf_model.specs.Values as values
+use Rattle.vf_meaning.specs.Fractions.{whole}
+use Rattle.vf_meaning.specs.Ghost.{Integers, Number, PointerSum, Compare}
+use Rattle.vf_meaning.specs.Valuations.{Valuation, further}
+use Rattle.vf_meaning.specs.GhostValues.{compared}
+use Rattle.vf_meaning.specs.Assertions.{Environment}
+use Rattle.vf_meaning.specs.Sorts.{HasSort}
+use Rattle.vf_meaning.specs.Parts.{IndexCell, CellOf, Part, nothing, single, ◌⊕◌, IsSum}
+use Rattle.vf_meaning.specs.Chunks.{IsRow, IsRowAt, RowMeets, list_of}
+use Rattle.vf_meaning.proofs.Parts.{sums_turn, sums_regroup, nothing_is_neutral, nothing-⊕}
+use Rattle.vf_rules.specs.Terms.{Term}
+use Rattle.vf_rules.specs.States.{Fact, Holds, OfSort, SymbolicState, value_in, wanted_in, Meets, ChunkMeans, StandsFor}
+use Rattle.vf_rules.specs.Arrays.{row_chunk, shared_row, SplitsContent, splits_known, splits_unknown, JoinsContent, joins_known, joins_unknown, Arranges, knows_length, makes_row, splits_row, joins_rows}
+use Rattle.vf_rules.proofs.Stands.{assuming_all_stands, chunks_more}
+use Rattle.vf_rules.proofs.Takes.{same_value, removes_parted}
+use Rattle.vf_safety.proofs.Ready.{positive_whole}
+use Rattle.vf_safety.proofs.Rows.{row_at, row_from}
+use Rattle.vf_safety.proofs.Elements.{row_owned_of, count_in, at_most}
+use Rattle.vf_safety.proofs.IntBlocks.{further_none}
+
+fraction_same : {x y : Dyadic} → values.Fraction x ≡ values.Fraction y → x ≡ y
+fraction_same h = cc
+
+plus_zero : (k : ℕ) → k ≡ k + 0
+plus_zero k = omega arith
+
+plus_suc : (k j : ℕ) → suc k + j ≡ k + suc j
+plus_suc k j = omega arith
+
+-- ---- lists
+map_append : {A B : Type 0} (f : A → B) (xs ys : List A) → map f (xs ++ ys) ≡ map f xs ++ map f ys
+map_append f [] ys = refl
+map_append f (x ∷ xs) ys = ap (λ zs. f x ∷ zs) (map_append f xs ys)
+
+map_long : {A B : Type 0} (f : A → B) (xs : List A) → length (map f xs) ≡ length xs
+map_long f [] = refl
+map_long f (x ∷ xs) = ap suc (map_long f xs)
+
+both_long : {A : Type 0} (xs ys : List A) → length (xs ++ ys) ≡ length xs + length ys
+both_long [] ys = from_zero (length ys)
+  where
+    from_zero : (n : ℕ) → n ≡ 0 + n
+    from_zero n = omega arith
+both_long (x ∷ xs) ys = ap suc (both_long xs ys) ∙ more (length xs) (length ys)
+  where
+    more : (m n : ℕ) → suc (m + n) ≡ suc m + n
+    more m n = omega arith
+
+-- a list is its first ones, so many, and those behind them
+record SplitList (A : Type 0) (xs : List A) (i : ℕ) : Type 0 where
+  first : List A
+  second : List A
+  is : xs ≡ first ++ second
+  long : length first ≡ i
+
+split_list : {A : Type 0} (xs : List A) (i : ℕ) → i ≤ length xs → SplitList A xs i
+split_list xs zero l = record { first = []; second = xs; is = refl; long = refl }
+split_list [] (suc i) l = absurd (no i l)
+  where
+    no : (i : ℕ) → suc i ≤ 0 → ⊥
+    no i l = omega (arith, l)
+split_list (x ∷ xs) (suc i) l =
+    let s = split_list xs i (omega (arith, l)) in
+    record { first = x ∷ s.first; second = s.second; is = ap (λ zs. x ∷ zs) s.is; long = ap suc s.long }
+
+-- ---- rows
+alone : (p q r : Part) → p ≡ nothing → IsSum p q r → r ≡ q
+alone p q r h s = s.adds ∙ ap (λ z. z ⊕ q) h ∙ nothing-⊕ q
+
+record SplitRow (x : Dyadic) (b k : ℕ) (front back : List (Option Value)) (q : Part) : Type 0 where
+  first : Part
+  second : Part
+  sums : IsSum first second q
+  is_first : IsRow x b k front first
+  is_second : IsRow x b (k + length front) back second
+
+rows_split : (x : Dyadic) (b k : ℕ) (front back : List (Option Value)) (q : Part) → IsRow x b k (front ++ back) q → SplitRow x b k front back q
+rows_split x b k [] back q h = record { first = nothing; second = q; sums = nothing_is_neutral q; is_first = refl; is_second = subst (λ i. IsRow x b i back q) (plus_zero k) h }
+rows_split x b k (c ∷ front) back q (r, sums, rest) =
+    let one = single (IndexCell b k) (CellOf c) x in
+    let s = rows_split x b (suc k) front back r rest in
+    let (u, inner, outer) = sums_regroup s.second s.first r one q (sums_turn s.first s.second r s.sums) (sums_turn one r q sums) in
+    record {
+      first = u;
+      second = s.second;
+      sums = sums_turn s.second u q outer;
+      is_first = (s.first, sums_turn s.first one u inner, s.is_first);
+      is_second = subst (λ i. IsRow x b i back s.second) (plus_suc k (length front)) s.is_second;
+    }
+
+rows_join : (x : Dyadic) (b k : ℕ) (front back : List (Option Value)) (q1 q2 q : Part) → IsRow x b k front q1 → IsRow x b (k + length front) back q2 → IsSum q1 q2 q → IsRow x b k (front ++ back) q
+rows_join x b k [] back q1 q2 q h h2 sums = subst (λ i. IsRow x b i back q) (sym (plus_zero k)) (subst (λ z. IsRow x b (k + 0) back z) (sym (alone q1 q2 q h sums)) h2)
+rows_join x b k (c ∷ front) back q1 q2 q (r, sums1, rest) h2 sums =
+    let one = single (IndexCell b k) (CellOf c) x in
+    let (u, inner, outer) = sums_regroup one r q1 q2 q sums1 sums in
+    (u, outer, rows_join x b (suc k) front back r q2 u rest (subst (λ i. IsRow x b i back q2) (sym (plus_suc k (length front))) h2) inner)
+
+-- rows at a pointer
+record SplitAt (x : Dyadic) (pointer : Value) (front back : List (Option Value)) (q : Part) : Type 0 where
+  first : Part
+  second : Part
+  sums : IsSum first second q
+  is_first : IsRowAt x pointer front first
+  is_second : IsRowAt x (further pointer (pos (length front))) back second
+
+split_at : (x : Dyadic) (pointer : Value) (front back : List (Option Value)) (q : Part) → IsRowAt x pointer (front ++ back) q → SplitAt x pointer front back q
+split_at x pointer [] back q h = record { first = nothing; second = q; sums = nothing_is_neutral q; is_first = refl; is_second = subst (λ w. IsRowAt x w back q) (further_none pointer) h }
+split_at x (values.Pointer b (pos o)) (c ∷ front) back q h =
+    let s = rows_split x b o (c ∷ front) back q h in
+    record { first = s.first; second = s.second; sums = s.sums; is_first = s.is_first; is_second = row_at x b (o + length (c ∷ front)) back s.second s.is_second }
+split_at x (values.Pointer b (negsuc o)) (c ∷ front) back q h = absurd h
+split_at x (values.Number z) (c ∷ front) back q h = absurd h
+split_at x (values.Truth z) (c ∷ front) back q h = absurd h
+split_at x values.Null (c ∷ front) back q h = absurd h
+split_at x (values.Function g) (c ∷ front) back q h = absurd h
+split_at x (values.Constructed d vs) (c ∷ front) back q h = absurd h
+split_at x (values.Predicate p vs) (c ∷ front) back q h = absurd h
+split_at x (values.Fraction d) (c ∷ front) back q h = absurd h
+
+join_at : (x : Dyadic) (pointer : Value) (front back : List (Option Value)) (q1 q2 q : Part) → IsRowAt x pointer front q1 → IsRowAt x (further pointer (pos (length front))) back q2 → IsSum q1 q2 q → IsRowAt x pointer (front ++ back) q
+join_at x pointer [] back q1 q2 q h h2 sums = subst (λ z. IsRowAt x pointer back z) (sym (alone q1 q2 q h sums)) (subst (λ w. IsRowAt x w back q2) (sym (further_none pointer)) h2)
+join_at x (values.Pointer b (pos o)) (c ∷ front) back q1 q2 q h h2 sums = rows_join x b o (c ∷ front) back q1 q2 q h (row_from x b (o + length (c ∷ front)) back q2 h2) sums
+join_at x (values.Pointer b (negsuc o)) (c ∷ front) back q1 q2 q h h2 sums = absurd h
+join_at x (values.Number z) (c ∷ front) back q1 q2 q h h2 sums = absurd h
+join_at x (values.Truth z) (c ∷ front) back q1 q2 q h h2 sums = absurd h
+join_at x values.Null (c ∷ front) back q1 q2 q h h2 sums = absurd h
+join_at x (values.Function g) (c ∷ front) back q1 q2 q h h2 sums = absurd h
+join_at x (values.Constructed d vs) (c ∷ front) back q1 q2 q h h2 sums = absurd h
+join_at x (values.Predicate p vs) (c ∷ front) back q1 q2 q h h2 sums = absurd h
+join_at x (values.Fraction d) (c ∷ front) back q1 q2 q h h2 sums = absurd h
+
+-- ---- what is known of the numbers
+record Cut (e : Environment) (v : Valuation) (first second : Option Term) (row : List (Option Value)) (i : ℕ) : Type 0 where
+  front : List (Option Value)
+  back : List (Option Value)
+  is : row ≡ front ++ back
+  long : length front ≡ i
+  meets_front : RowMeets (wanted_in e v first) front
+  meets_back : RowMeets (wanted_in e v second) back
+
+cut : (e : Environment) (v : Valuation) (path : List Fact) (count : Term) (content first second : Option Term) (row : List (Option Value)) (i : ℕ) → SplitsContent e path count content first second → Meets e v path → RowMeets (wanted_in e v content) row → value_in e v count ≡ values.Number (pos i) → i ≤ length row
+    → Cut e v first second row i
+cut e v path count _ _ _ row i (splits_known split) m (zs, list_is, row_is) count_is most =
+    let f : ℤ → Option Value = λ z. Some (values.Number z) in
+    let s = split_list zs i (subst (λ n. i ≤ n) (ap length row_is ∙ map_long f zs) most) in
+    let known = split.by v m s.first s.second (list_is ∙ ap list_of s.is) (count_is ∙ ap (λ n. values.Number (pos n)) (sym s.long)) in
+    record {
+      front = map f s.first;
+      back = map f s.second;
+      is = row_is ∙ ap (map f) s.is ∙ map_append f s.first s.second;
+      long = map_long f s.first ∙ s.long;
+      meets_front = (s.first, known.0, refl);
+      meets_back = (s.second, known.1, refl);
+    }
+cut e v path count _ _ _ row i splits_unknown m meets count_is most =
+    let s = split_list row i most in
+    record { front = s.first; back = s.second; is = s.is; long = s.long; meets_front = tt; meets_back = tt }
+
+joined_meets : (e : Environment) (v : Valuation) (path : List Fact) (first second content : Option Term) (front back : List (Option Value)) → JoinsContent e path first second content → Meets e v path → RowMeets (wanted_in e v first) front → RowMeets (wanted_in e v second) back → RowMeets (wanted_in e v content) (front ++ back)
+joined_meets e v path _ _ _ front back (joins_known join) m (xs, a, front_is) (ys, b, back_is) =
+    (xs ++ ys, join.by v m xs ys a b, ap₂ (λ r s. r ++ s) front_is back_is ∙ sym (map_append (λ z. Some (values.Number z)) xs ys))
+joined_meets e v path _ _ _ front back joins_unknown m h k = tt
+
+-- ---- states
+not_below : (n : ℕ) → int_le (pos 0) (pos n) ≡ true
+not_below n = grind (arith, ints)
+
+length_met : (e : Environment) (v : Valuation) (long : Term) (n : ℕ) → value_in e v long ≡ values.Number (pos n) → Meets e v (OfSort long Integers ∷ Holds (Compare LessEqual (Number (pos 0)) long) ∷ [])
+length_met e v long n is = (subst (λ w. HasSort e w Integers) (sym is) (inl refl), (subst (λ w. IsTrue (compared LessEqual (values.Number (pos 0)) w)) (sym is) (not_below n), tt))
+
+pub arranged : (e : Environment) (v : Valuation) {st new : SymbolicState} → Arranges e st new → (locals : List (Option Value)) (names : Valuation) (part : Part) → StandsFor e v st locals names part → StandsFor e v new locals names part
+arranged e v {st} (knows_length u long content c others taken head arguments) locals names part stands =
+    let o = removes_parted e v c taken part stands.chunks_mean in
+    let owned = row_owned_of e v u long content c o.off o.chunk head arguments in
+    assuming_all_stands e v st locals names part (OfSort long Integers ∷ Holds (Compare LessEqual (Number (pos 0)) long) ∷ []) (length_met e v long (length owned.row) owned.long_is) stands
+arranged e v {st} (makes_row u nil none) locals names part stands =
+    let made : ChunkMeans e v (row_chunk u (Number (pos 0)) (Some nil)) nothing = record { fraction = whole; share = refl; positive = positive_whole; head = (0, (value_in e v u, [], refl, refl, ([], none.by v stands.path, refl), refl)) } in
+    record {
+      path = stands.path;
+      locals_mean = stands.locals_mean;
+      names_mean = stands.names_mean;
+      chunks_mean = chunks_more e v st.chunks (row_chunk u (Number (pos 0)) (Some nil) ∷ []) part nothing part stands.chunks_mean (nothing, nothing, nothing_is_neutral nothing, made, refl) (nothing_is_neutral part);
+    }
+arranged e v {st} (splits_row u long count rest content first second c others taken head arguments number low high rest_is contents) locals names part stands =
+    let path = stands.path in
+    let o = removes_parted e v c taken part stands.chunks_mean in
+    let owned = row_owned_of e v u long content c o.off o.chunk head arguments in
+    let x = (o.chunk).fraction in
+    let (i, count_is) = count_in e v st.path count number low path in
+    let most : i ≤ length owned.row = at_most i (length owned.row) (subst₂ (λ y z. compared LessEqual y z ≡ true) count_is owned.long_is (high.by v path)) in
+    let k = cut e v st.path count content first second owned.row i contents path owned.meets count_is most in
+    let s = split_at x (value_in e v u) k.front k.back o.off (subst (λ r. IsRowAt x (value_in e v u) r o.off) k.is owned.is_row) in
+    let count_front : value_in e v count ≡ values.Number (pos (length k.front)) = count_is ∙ ap (λ n. values.Number (pos n)) (sym k.long) in
+    let long_is : value_in e v long ≡ values.Number (pos (length k.front + length k.back)) = owned.long_is ∙ ap (λ n. values.Number (pos n)) (ap length k.is ∙ both_long k.front k.back) in
+    let rest_long = rest_is.by v path (length k.front) (length k.back) long_is count_front in
+    let one : ChunkMeans e v (shared_row c.share u count first) s.first = record { fraction = x; share = (o.chunk).share; positive = owned.positive; head = (0, (value_in e v u, k.front, refl, sym count_front, k.meets_front, s.is_first)) } in
+    let two : ChunkMeans e v (shared_row c.share (PointerSum u count) rest second) s.second = record {
+      fraction = x;
+      share = (o.chunk).share;
+      positive = owned.positive;
+      head = (0, (further (value_in e v u) (pos (length k.front)), k.back, ap (λ y. further (value_in e v u) (number_of y)) (sym count_front), sym rest_long, k.meets_back, s.is_second));
+    } in
+    record {
+      path = path;
+      locals_mean = stands.locals_mean;
+      names_mean = stands.names_mean;
+      chunks_mean = chunks_more e v others (shared_row c.share u count first ∷ shared_row c.share (PointerSum u count) rest second ∷ []) o.left o.off part o.chunks_mean
+          (s.first, s.second, s.sums, one, (s.second, nothing, sums_turn nothing s.second s.second (nothing_is_neutral s.second), two, refl)) o.sums;
+    }
+arranged e v {st} (joins_rows u count w more total first second content c d mid others taken head arguments taken2 head2 arguments2 beside one_share total_is contents) locals names part stands =
+    let path = stands.path in
+    let o1 = removes_parted e v c taken part stands.chunks_mean in
+    let owned1 = row_owned_of e v u count first c o1.off o1.chunk head arguments in
+    let o2 = removes_parted e v d taken2 o1.left o1.chunks_mean in
+    let owned2 = row_owned_of e v w more second d o2.off o2.chunk head2 arguments2 in
+    let x = (o1.chunk).fraction in
+    let one_fraction : (o2.chunk).fraction ≡ x = fraction_same (sym (o2.chunk).share ∙ same_value e v d.share c.share (one_share.by v path) ∙ (o1.chunk).share) in
+    let (q, inner, outer) = sums_regroup o2.left o2.off o1.left o1.off part (sums_turn o2.off o2.left o1.left o2.sums) (sums_turn o1.off o1.left part o1.sums) in
+    let pointer_is : value_in e v w ≡ further (value_in e v u) (pos (length owned1.row)) = same_value e v w (PointerSum u count) (beside.by v path) ∙ ap (λ y. further (value_in e v u) (number_of y)) owned1.long_is in
+    let is_row = join_at x (value_in e v u) owned1.row owned2.row o1.off o2.off q owned1.is_row (subst₂ (λ y z. IsRowAt y z owned2.row o2.off) one_fraction pointer_is owned2.is_row) (sums_turn o2.off o1.off q inner) in
+    let total_long = total_is.by v path (length owned1.row) (length owned2.row) owned1.long_is owned2.long_is in
+    let one : ChunkMeans e v (shared_row c.share u total content) q = record {
+      fraction = x;
+      share = (o1.chunk).share;
+      positive = owned1.positive;
+      head = (0, (value_in e v u, owned1.row ++ owned2.row, refl, ap (λ n. values.Number (pos n)) (both_long owned1.row owned2.row) ∙ sym total_long, joined_meets e v st.path first second content owned1.row owned2.row contents path owned1.meets owned2.meets, is_row));
+    } in
+    record {
+      path = path;
+      locals_mean = stands.locals_mean;
+      names_mean = stands.names_mean;
+      chunks_mean = chunks_more e v others (shared_row c.share u total content ∷ []) o2.left q part o2.chunks_mean (q, nothing, sums_turn nothing q q (nothing_is_neutral q), one, refl) (sums_turn o2.left q part outer);
+    }

@@ -1,0 +1,5 @@
+use Rattle.vf_safety.proofs.ArrayLemmas.{raw_rows_are_split}
+use Rattle.vf_safety.proofs.array_laws.raw_rows_are_split.Goals as goal
+
+pub returns : goal.returns
+returns c = raw_rows_are_split
