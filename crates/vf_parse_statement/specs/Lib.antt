@@ -1,0 +1,4 @@
+pub mod Annotations
+pub mod Laws
+pub mod NoGhosts
+pub mod Parsers
