@@ -33,7 +33,7 @@ use Rattle.vf_lemmas.specs.Proves.{MayCall, earlier, whole_cell_left, smaller_ar
 use Rattle.vf_lemmas.proofs.Ends.{end_gives}
 use Rattle.vf_lemmas.proofs.Masses.{HasMass, mass_left, mass_falls}
 use Rattle.vf_lemmas.proofs.Cells.{whole_cell}
-use Rattle.vf_lemmas.proofs.Calls.{sorted_arguments}
+use Rattle.vf_rules.proofs.LemmaCalls.{sorted_arguments}
 use Rattle.vf_lemmas.proofs.Asides.{only_left, FirstAt, first_back, IsBelow, AsideMeans, less_below}
 use Rattle.vf_lemmas.proofs.Around.{HasFall, Around, part_typed, with_less, back, still_named, opened_around}
 

@@ -54,6 +54,7 @@ lemma_environment = record {
   functions = λ g. None;
   types = λ t. None;
   called = λ g n. None;
+  leaks = λ g n. false;
 }
 
 -- a program without functions

@@ -45,6 +45,7 @@ nesting = record {
   functions = λ g. None;
   types = λ t. None;
   called = λ g n. None;
+  leaks = λ g n. false;
 }
 
 -- `lemma void not_negative(int n) requires nested(n); ensures 0 <= n; { open nested(n); if (n != 0) not_negative(n - 1); }`

@@ -291,6 +291,7 @@ kept = record {
   required = true_holds environment (λ x. no_value);
   unleaked = refl;
   changes = λ k event is. record { threads = λ u other known same. refl; mutexes = λ b same. refl };
+  leaks = λ k event is. record { more = nothing; sums = nothing_is_neutral nothing; unleaked = λ none. refl };
   calls = calls_kept;
   starts = starts_kept;
   ensured = λ j event result is main returns last. record { later = λ x. no_value; fixed = λ x h. refl; sorts = no_sorts (λ x. no_value); satisfies = true_holds environment (with_result (λ x. no_value) result) };

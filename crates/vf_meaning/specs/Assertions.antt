@@ -62,7 +62,7 @@ pub record ContractTree : Type 0 where
   pub requires_this : Assertion
   pub ensures_this : Assertion
 
--- All declarations by identity: constructors of datatypes, fixpoints (each before those that it names), which function's declaration claims which function type, predicates, bodies, the contracts of functions and of function types, and the function type of each call through a pointer, by the calling function and the number of its step
+-- All declarations by identity: constructors of datatypes, fixpoints (each before those that it names), which function's declaration claims which function type, predicates, bodies, the contracts of functions and of function types, the function type of each call through a pointer, by the calling function and the number of its step, and whether a `leak` is run before a step of a function, in the function's annotations or in a lemma that they call
 pub record Environment : Type 0 where
   pub constructors : Identity → Option ConstructorTree
   pub fixpoints : List FixpointTree
@@ -72,3 +72,4 @@ pub record Environment : Type 0 where
   pub functions : Identity → Option ContractTree
   pub types : Identity → Option ContractTree
   pub called : Identity → ℕ → Option Identity
+  pub leaks : Identity → ℕ → Bool

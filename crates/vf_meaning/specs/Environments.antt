@@ -15,6 +15,7 @@ pub record Extends (e f : Environment) : Type 0 where
   pub functions : (g : Identity) (k : ContractTree) → e.functions g ≡ Some k → f.functions g ≡ Some k
   pub types : (t : Identity) (k : ContractTree) → e.types t ≡ Some k → f.types t ≡ Some k
   pub called : (g : Identity) (n : ℕ) (t : Identity) → e.called g n ≡ Some t → f.called g n ≡ Some t
+  pub leaks : (g : Identity) (n : ℕ) → IsTrue (e.leaks g n) → IsTrue (f.leaks g n)
 
 -- one of several units has it
 abbrev pub SomeUnit : List Environment → (Environment → Type 0) → Type 0
@@ -32,3 +33,4 @@ pub record IsLinked (units : List Environment) (e : Environment) : Type 0 where
   pub functions : (g : Identity) (k : ContractTree) → e.functions g ≡ Some k → SomeUnit units (λ u. u.functions g ≡ Some k)
   pub types : (t : Identity) (k : ContractTree) → e.types t ≡ Some k → SomeUnit units (λ u. u.types t ≡ Some k)
   pub called : (g : Identity) (n : ℕ) (t : Identity) → e.called g n ≡ Some t → SomeUnit units (λ u. u.called g n ≡ Some t)
+  pub leaks : (g : Identity) (n : ℕ) → IsTrue (e.leaks g n) → SomeUnit units (λ u. IsTrue (u.leaks g n))

@@ -165,7 +165,22 @@ pub record ChangesOnly (s new : State) (t : ℕ) (o next : ShareOut) : Type 0 wh
   pub threads : (u : ℕ) → u ≢ t → u < length s.threads → ((b : ℕ) → IsHandleOf s b u → block_at new.memory b ≡ block_at s.memory b) → next.threads u ≡ o.threads u
   pub mutexes : (b : ℕ) → block_at new.memory b ≡ block_at s.memory b → next.mutexes b ≡ o.mutexes b
 
--- What a list of events keeps in a program with an environment: share-outs of all states that it comes to, such that main begins with nothing and its precondition, each event changes only what is its own or handed over, each call through a pointer and each thread keeps the contract of its function type, and main's return leaves its postcondition
+-- a leak stands before a thread's next step, in the function that the thread is in
+pub record LeaksNext (e : Environment) (p : ProgramTree) (s : State) (t : ℕ) : Type 0 where
+  pub f : FunctionTree
+  pub frame : Frame
+  pub callers : List Frame
+  pub frames : slice_get s.threads t ≡ Some (frame ∷ callers)
+  pub function : slice_get p.functions frame.function ≡ Some f
+  pub leaks : IsTrue (e.leaks f.identity frame.step)
+
+-- what was leaked grows by a part in an event of a thread, which is nothing where no leak stands before the thread's step
+pub record Leaks (e : Environment) (p : ProgramTree) (s : State) (t : ℕ) (o next : ShareOut) : Type 0 where
+  pub more : Part
+  pub sums : IsSum more o.leaked next.leaked
+  pub unleaked : (LeaksNext e p s t → ⊥) → more ≡ nothing
+
+-- What a list of events keeps in a program with an environment: share-outs of all states that it comes to, such that main begins with nothing and its precondition, each event changes only what is its own or handed over, what was leaked grows only where a leak stands, each call through a pointer and each thread keeps the contract of its function type, and main's return leaves its postcondition
 pub record Kept (e : Environment) (p : ProgramTree) (events : List Event) : Type 0 where
   pub outs : ℕ → ShareOut
   pub share_outs : (k : ℕ) → k ≤ length events → IsShareOut e p (before p events k) (outs k)
@@ -180,6 +195,7 @@ pub record Kept (e : Environment) (p : ProgramTree) (events : List Event) : Type
   pub required : Satisfies e whole contract.requires_this under ((outs 0).threads 0)
   pub unleaked : (outs 0).leaked ≡ nothing
   pub changes : (k : ℕ) (event : Event) → slice_get events k ≡ Some event → ChangesOnly (before p events k) (before p events (suc k)) event.thread (outs k) (outs (suc k))
+  pub leaks : (k : ℕ) (event : Event) → slice_get events k ≡ Some event → Leaks e p (before p events k) event.thread (outs k) (outs (suc k))
   pub calls : (k : ℕ) (event : Event) (call : Promise) → slice_get events k ≡ Some event → CallsPointer e p (before p events k) event call
       → (rest : Part) × IsKept e p events outs k call rest
   pub starts : (k : ℕ) (event : Event) (call : Promise) → slice_get events k ≡ Some event → StartsThread p (before p events k) event call → IsKept e p events outs k call nothing

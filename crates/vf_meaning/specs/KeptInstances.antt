@@ -1,5 +1,5 @@
 -- A small program whose run calls through a pointer and starts a thread, with what it keeps.
-use Rattle.std.specs.Prelude.{◌≡◌, ℕ, true, Bool, ◌||◌, ◌&&◌, cond, pos, List, [], ◌∷◌, Option, Some, None, codes}
+use Rattle.std.specs.Prelude.{◌≡◌, ℕ, true, false, Bool, ◌||◌, ◌&&◌, cond, pos, List, [], ◌∷◌, Option, Some, None, codes}
 use Rattle.vf_base.specs.declared.place.Place.{Place}
 use Rattle.vf_base.specs.declared.int_type.IntType.TheVariants as types
 use Rattle.vf_tree.specs.Core.{Identity, Void, Integer, PointerToVoid, Signature, Call, CallPointer, Return, FunctionTree, ProgramTree}
@@ -72,6 +72,7 @@ environment = record {
   functions = λ g. Some (truth [] 0 (Some ghost.Integers));
   types = λ t. cond (same_identity t callback) (Some (truth [] 0 None)) (Some (truth (ghost.Pointers ∷ []) 1 None));
   called = λ g n. Some callback;
+  leaks = λ g n. false;
 }
 
 -- main calls, the call returns, main starts a thread, the thread ends, and main returns

@@ -1,12 +1,13 @@
 -- What a call of a lemma that holds makes of what a state stands for.
-use Rattle.std.proofs.Common.{◌≡◌, ℕ, Bool, List, [], slice_get, Option, Some, refl, sym, ◌∙◌, arith}
+use Rattle.std.proofs.Common.{◌≡◌, List, Option, refl, sym, ◌∙◌, arith}
+use Rattle.std.specs.Prelude.{IsFalse}
 use Rattle.vf_tree.specs.Core.{ProgramTree}
 use Rattle.vf_model.specs.Values.{Value}
 use Rattle.vf_meaning.specs.Fractions.{whole, IsPositive}
 use Rattle.vf_meaning.specs.Ghost.{Sort, Numbered, CurrentThread, Variable}
 use Rattle.vf_meaning.specs.Valuations.{Valuation}
 use Rattle.vf_meaning.specs.Assertions.{Environment}
-use Rattle.vf_meaning.specs.Parts.{Part, IsSum}
+use Rattle.vf_meaning.specs.Parts.{Part, nothing, IsSum}
 use Rattle.vf_meaning.proofs.Parts.{sums_turn, sums_regroup}
 use Rattle.vf_rules.specs.Terms.{Term}
 use Rattle.vf_rules.specs.Terms as terms
@@ -26,8 +27,8 @@ use Rattle.vf_rules.proofs.Opening.{completed, completed_means, completed_sorted
 positive_whole : IsPositive whole
 positive_whole = omega arith
 
--- What is there behind a call: an outcome that stands for what is left of a part, and what was leaked of it
-pub record AfterLemma (e : Environment) (outs : List Outcome) (locals : List (Option Value)) (names : Valuation) (p : Part) : Type 0 where
+-- What is there behind a call: an outcome that stands for what is left of a part, and what was leaked of it, which is nothing where the lemma does not leak
+pub record AfterLemma (e : Environment) (lemma : LemmaTree) (outs : List Outcome) (locals : List (Option Value)) (names : Valuation) (p : Part) : Type 0 where
   pub under : Valuation
   pub store : terms.Store
   pub state : SymbolicState
@@ -35,9 +36,11 @@ pub record AfterLemma (e : Environment) (outs : List Outcome) (locals : List (Op
   pub left : Part
   pub leaked : Part
   pub sums : IsSum leaked left p
+  pub unleaked : IsFalse lemma.leaks → leaked ≡ nothing
   pub stands : StandsFor e under state locals names left
 
-sorted_arguments : (e : Environment) (v : Valuation) (path : List Fact) (sorts : List Sort) (ts : List Term) → AreSorted e path sorts ts → Meets e v path → StoreSorted e v sorts (call_store ts)
+-- the arguments have the sorts of the parameters
+pub sorted_arguments : (e : Environment) (v : Valuation) (path : List Fact) (sorts : List Sort) (ts : List Term) → AreSorted e path sorts ts → Meets e v path → StoreSorted e v sorts (call_store ts)
 sorted_arguments e v path sorts ts h m n so z is known = (h n so z known (sym (stored_other (store_of ts) CurrentThread (Numbered n) (Variable CurrentThread) (λ c. clash c)) ∙ is)).by v m
   where
     clash : Numbered n ≡ CurrentThread → ⊥
@@ -45,7 +48,7 @@ sorted_arguments e v path sorts ts h m n so z is known = (h n so z known (sym (s
 
 pub lemma_called : (e : Environment) (p : ProgramTree) (lemma : LemmaTree) (ts : List Term) (outs : List Outcome) (st : SymbolicState) → LemmaHolds e p lemma → AreInhabited e lemma.contract.sorts → AreSorted e st.path lemma.contract.sorts ts
     → Consume e p lemma.contract.sorts all_of_it lemma.contract.requires_this (call_store ts) st (λ s1 st1. AreFixed lemma.contract s1 × Produce e p lemma.contract.sorts all_of_it lemma.contract.ensures_this s1 st1 (IsAmong outs))
-    → (locals : List (Option Value)) (names v : Valuation) (part : Part) → StandsFor e v st locals names part → IsTypedPart e p part → AfterLemma e outs locals names part
+    → (locals : List (Option Value)) (names v : Valuation) (part : Part) → StandsFor e v st locals names part → IsTypedPart e p part → AfterLemma e lemma outs locals names part
 lemma_called e p lemma ts outs st holds inhabited sorted consume locals names v part stands typed =
     let c = consumed e p lemma.contract.sorts all_of_it whole locals names lemma.contract.requires_this (call_store ts) st _ consume v part stands (sorted_arguments e v st.path lemma.contract.sorts ts sorted stands.path) refl in
     let values = completed e c.under lemma.contract.sorts inhabited c.store in
@@ -57,4 +60,4 @@ lemma_called e p lemma ts outs st holds inhabited sorted consume locals names v 
     let (now, both, all) = sums_regroup g.leaked g.kept c.off c.left part (sums_turn g.kept g.leaked c.off g.sums) c.sums in
     let o = produced e p lemma.contract.sorts all_of_it whole (ensured.satisfies).0 locals names lemma.contract.ensures_this c.store c.state (IsAmong outs) (c.holds).1 c.under ensured.later g.kept c.left now c.stands later_means ensured.sorts refl positive_whole
     (ensured.satisfies).1 (typed_left e p g.kept g.leaked c.off g.sums typed_off) both in
-    record { under = o.under; store = o.store; state = o.state; holds = o.holds; left = now; leaked = g.leaked; sums = all; stands = o.stands }
+    record { under = o.under; store = o.store; state = o.state; holds = o.holds; left = now; leaked = g.leaked; sums = all; unleaked = g.unleaked; stands = o.stands }

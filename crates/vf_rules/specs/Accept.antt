@@ -112,7 +112,7 @@ abbrev pub IsOneOf : Loop → List Loop → Type 0
 IsOneOf loop [] = ⊥
 IsOneOf loop (x ∷ xs) = (x ≡ loop) ⊎ IsOneOf loop xs
 
--- A body is accepted from a step on, in a state, within loops: at the heads of the first ones it may stop, since they were entered and a core step was done since; at those of the second ones, which have the others too, it may once a core step is done. `do_` are the rules of core steps, `may_` those of what annotations do, of a loop's head, or of a state that cannot be
+-- A body is accepted from a step on, in a state, within loops: at the heads of the first ones it may stop, since they were entered and a core step was done since; at those of the second ones, which have the others too, it may once a core step is done. `do_` are the rules of core steps, `may_` those of what annotations do, of a loop's head, or of a state that cannot be. Something is leaked before a step only where the environment says so of it
 pub data Accepts (e : Environment) (p : ProgramTree) (f : FunctionTree) (k : ContractTree) : List Loop → List Loop → ℕ → SymbolicState → Type 0 where
   do_set : {now soon : List Loop} {n : ℕ} {st : SymbolicState} (x : ℕ) (a : ExpressionTree) (next : ℕ) (t : Term) → slice_get f.steps n ≡ Some (Set x a next) → Evaluates e st.path st.locals a t
       → Accepts e p f k soon soon next (with_local st x t) → Accepts e p f k now soon n st
@@ -205,11 +205,11 @@ pub data Accepts (e : Environment) (p : ProgramTree) (f : FunctionTree) (k : Con
   may_open : {now soon : List Loop} {n : ℕ} {st : SymbolicState} (outs : List Outcome) → Opens e p st outs → ((s : terms.Store) (su : SymbolicState) → IsAmong outs s su → Accepts e p f k now soon n su) → Accepts e p f k now soon n st
   may_close : {now soon : List Loop} {n : ℕ} {st : SymbolicState} (outs : List Outcome) → Closes e p st outs → ((s : terms.Store) (su : SymbolicState) → IsAmong outs s su → Accepts e p f k now soon n su) → Accepts e p f k now soon n st
   may_split : {now soon : List Loop} {n : ℕ} {st : SymbolicState} (t : Term) → Accepts e p f k now soon n (assuming st (Holds t)) → Accepts e p f k now soon n (assuming st (Holds (Not t))) → Accepts e p f k now soon n st
-  may_leak : {now soon : List Loop} {n : ℕ} {st : SymbolicState} (a : Assertion) (sorts : List Sort) (store : terms.Store) (outs : List Outcome) → AreNamesSorted e st.path sorts store → Consume e p sorts all_of_it a store st (IsAmong outs)
+  may_leak : {now soon : List Loop} {n : ℕ} {st : SymbolicState} (a : Assertion) (sorts : List Sort) (store : terms.Store) (outs : List Outcome) → IsTrue (e.leaks f.identity n) → AreNamesSorted e st.path sorts store → Consume e p sorts all_of_it a store st (IsAmong outs)
       → ((s : terms.Store) (su : SymbolicState) → IsAmong outs s su → Accepts e p f k now soon n su) → Accepts e p f k now soon n st
   may_know : {now soon : List Loop} {n : ℕ} {st : SymbolicState} (a : Assertion) (sorts : List Sort) (store : terms.Store) (outs : List Outcome) → HoldsOfNothing e st.path sorts a store → Produce e p sorts all_of_it a store st (IsAmong outs)
       → ((s : terms.Store) (su : SymbolicState) → IsAmong outs s su → Accepts e p f k now soon n su) → Accepts e p f k now soon n st
-  may_call_lemma : {now soon : List Loop} {n : ℕ} {st : SymbolicState} (lemma : LemmaTree) (ts : List Term) (outs : List Outcome) → LemmaHolds e p lemma → AreInhabited e lemma.contract.sorts → length ts ≡ lemma.contract.parameters → AreSorted e st.path lemma.contract.sorts ts
+  may_call_lemma : {now soon : List Loop} {n : ℕ} {st : SymbolicState} (lemma : LemmaTree) (ts : List Term) (outs : List Outcome) → LemmaHolds e p lemma → (IsTrue lemma.leaks → IsTrue (e.leaks f.identity n)) → AreInhabited e lemma.contract.sorts → length ts ≡ lemma.contract.parameters → AreSorted e st.path lemma.contract.sorts ts
       → Consume e p lemma.contract.sorts all_of_it lemma.contract.requires_this (call_store ts) st (λ s1 st1. AreFixed lemma.contract s1 × Produce e p lemma.contract.sorts all_of_it lemma.contract.ensures_this s1 st1 (IsAmong outs))
       → ((s : terms.Store) (su : SymbolicState) → IsAmong outs s su → Accepts e p f k now soon n su) → Accepts e p f k now soon n st
   may_enter : {now soon : List Loop} {n : ℕ} {st : SymbolicState} (loop : Loop) → loop.node ≡ n → IsLoop e p loop → Enters e p loop st

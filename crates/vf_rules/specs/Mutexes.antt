@@ -1,9 +1,9 @@
 -- The contracts of the prelude's functions for mutexes.
-use Rattle.std.specs.Prelude.{ℕ, [], ◌∷◌, Some, None, codes}
+use Rattle.std.specs.Prelude.{ℕ, true, [], ◌∷◌, Some, None, codes}
 use Rattle.vf_tree.specs.Core.{Identity}
 use Rattle.vf_meaning.specs.Fractions.{whole}
-use Rattle.vf_meaning.specs.Ghost.{Sort, Pointers, Fractions, Predicates, none, Numbered, Result, CurrentThread, GhostExpression, Variable}
-use Rattle.vf_meaning.specs.Assertions.{ShareTree, Times, Taken, Is, Names, Named, Applied, Assertion, Both, Chunk, ContractTree}
+use Rattle.vf_meaning.specs.Ghost.{Sort, Pointers, Fractions, Predicates, none, Numbered, Result, CurrentThread, GhostExpression, Truth, Variable}
+use Rattle.vf_meaning.specs.Assertions.{ShareTree, Times, Taken, Is, Names, Named, Applied, Assertion, Pure, Both, Chunk, ContractTree, BodyTree}
 
 -- the predicate of a mutex and its predicate value
 abbrev pub mutex_name : Identity
@@ -32,6 +32,10 @@ name k = Variable (Numbered k)
 -- `p()`, where the name of a number is a predicate value
 abbrev pub invariant : ℕ → Assertion
 invariant k = Chunk full (Applied (name k)) []
+
+-- `predicate create_mutex_ghost_arg(predicate() p) = true;`
+abbrev pub ghost_arg_body : BodyTree
+ghost_arg_body = record { sorts = invariants ∷ []; parameters = 1; assertion = Pure (Truth true) }
 
 -- `create_mutex`: requires create_mutex_ghost_arg(?p) &*& p(); ensures mutex(result, p)
 abbrev pub creation : ContractTree

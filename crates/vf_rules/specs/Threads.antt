@@ -4,8 +4,8 @@ use Rattle.vf_tree.specs.Core.{Identity, Signature, FunctionTree, ProgramTree}
 use Rattle.vf_model.specs.State.{function_named}
 use Rattle.vf_model.specs.PreludeFunctions.{PreludeFunction, ThreadStart, ThreadStartJoinable, ThreadJoin, CreateMutex, MutexAcquire, MutexRelease, MutexDispose, prelude_named, run_signature}
 use Rattle.vf_meaning.specs.Ghost.{Pointers, Anything, Numbered, Result, This, Variable, Claims}
-use Rattle.vf_meaning.specs.Assertions.{Is, Names, Named, Family, Pure, Empty, Both, Chunk, ContractTree, Environment}
-use Rattle.vf_rules.specs.Mutexes.{full, name, creation, acquisition, release, disposal}
+use Rattle.vf_meaning.specs.Assertions.{Is, Names, Named, Family, Pure, Empty, Both, Chunk, ContractTree, Plain, Environment}
+use Rattle.vf_rules.specs.Mutexes.{full, name, create_mutex_ghost_arg_name, ghost_arg_body, creation, acquisition, release, disposal}
 
 -- the predicate of a thread's handle
 abbrev pub thread_name : Identity
@@ -95,9 +95,9 @@ pub record IsRunType (e : Environment) (p : ProgramTree) (type : Identity) (cont
   pub of_type : e.types type ≡ Some contract
   pub claimants : (g : Identity) → IsTrue (e.claims g type) → HasSignature p g run_signature
 
--- which contract each of the prelude's functions for mutexes and threads has; a thread is started where its function type is the prelude's
+-- which contract each of the prelude's functions for mutexes and threads has; a mutex is created where the predicate that names its predicate value has the prelude's body, which owns nothing, and a thread is started where its function type is the prelude's
 pub data HasPreludeContract (e : Environment) (p : ProgramTree) : PreludeFunction → ContractTree → Type 0 where
-  creates : HasPreludeContract e p CreateMutex creation
+  creates : e.bodies (Plain create_mutex_ghost_arg_name) ≡ Some ghost_arg_body → HasPreludeContract e p CreateMutex creation
   acquires : HasPreludeContract e p MutexAcquire acquisition
   releases : HasPreludeContract e p MutexRelease release
   disposes : HasPreludeContract e p MutexDispose disposal

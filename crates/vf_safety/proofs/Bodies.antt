@@ -1,13 +1,15 @@
 -- An accepted body is safe for every number of steps, where the functions of the program are safe for fewer.
-use Rattle.std.proofs.Common.{◌≡◌, ℕ, zero, suc, ◌<◌, ◌≤◌, not, List, ◌∷◌, refl, sym, ap, subst, inl, inr, arith}
+use Rattle.std.proofs.Common.{◌≡◌, ℕ, zero, suc, ◌<◌, ◌≤◌, not, List, ◌∷◌, slice_get, Some, refl, sym, ap, subst, inl, inr, arith}
+use Rattle.std.specs.Prelude.{IsTrue}
 use Rattle.std.proofs.lemmas.Bool.{cases_Bool}
 use Rattle.vf_tree.specs.Core.{FunctionTree, ProgramTree}
-use Rattle.vf_model.specs.State.{Frame, Thread}
+use Rattle.vf_model.specs.State.{Frame, Thread, State}
 use Rattle.vf_meaning.specs.Fractions.{whole}
 use Rattle.vf_meaning.specs.Ghost.{Not}
 use Rattle.vf_meaning.specs.Valuations.{is_true}
 use Rattle.vf_meaning.specs.Assertions.{ContractTree, Environment}
 use Rattle.vf_meaning.specs.Parts.{Part, nothing}
+use Rattle.vf_meaning.specs.Kept.{LeaksNext}
 use Rattle.vf_meaning.proofs.Parts.{nothing_is_neutral}
 use Rattle.vf_rules.specs.Terms.{Term, stored}
 use Rattle.vf_rules.specs.Terms as terms
@@ -66,6 +68,11 @@ module _ (e : Environment) (p : ProgramTree) (t : ℕ) (duty : Duties) (f : Func
 
   at_head : (n node : ℕ) (st : SymbolicState) (m : ℕ) (frame : Frame) (callers : Thread) (own : Part) → node ≡ n → Ready e p t duty f k n st m frame callers own → Ready e p t duty f k node st m frame callers own
   at_head n node st m frame callers own same r = subst (λ z. Ready e p t duty f k z st m frame callers own) (sym same) r
+
+  -- ---- leaks
+  -- a leak that stands before a step stands there where the frame's next step is that one
+  leak_stands : (n : ℕ) (st : SymbolicState) (m : ℕ) (frame : Frame) (callers : Thread) (own : Part) → Ready e p t duty f k n st m frame callers own → IsTrue (e.leaks f.identity n) → (s : State) → slice_get s.threads t ≡ Some (frame ∷ callers) → LeaksNext e p s t
+  leak_stands n st m frame callers own r stands s here = record { f = f; frame = frame; callers = callers; frames = here; function = r.function; leaks = subst (λ z. IsTrue (e.leaks f.identity z)) (sym r.step) stands }
 
   -- ---- the whole body
   pub body_safe : {now soon : List Loop} {n : ℕ} {st : SymbolicState} → Accepts e p f k now soon n st → (m : ℕ) → HeadsSafe now (suc m) → HeadsSafe soon m → (frame : Frame) (callers : Thread) (own : Part) → Ready e p t duty f k n st m frame callers own → Safe e p t duty m (frame ∷ callers) own
@@ -127,16 +134,17 @@ module _ (e : Environment) (p : ProgramTree) (t : ℕ) (duty : Duties) (f : Func
         | inl yes1 ↦ body_safe yes_go (suc m) h i frame callers own (restated e p t duty f k n st (assuming st (Holds u)) (suc m) frame callers own r v (assuming_stands e v st frame.locals r.names r.part (Holds u) yes1 r.stands))
         | inr no1 ↦ body_safe no_go (suc m) h i frame callers own (restated e p t duty f k n st (assuming st (Holds (Not u))) (suc m) frame callers own r v (assuming_stands e v st frame.locals r.names r.part (Holds (Not u)) (ap not no1) r.stands))
       ]
-  body_safe {now} {soon} {n} {st} (may_leak a sorts store outs of_sorts consume go) (suc m) h i frame callers own r =
+  body_safe {now} {soon} {n} {st} (may_leak a sorts store outs stands of_sorts consume go) (suc m) h i frame callers own r =
       let c = consumed e p sorts all_of_it whole frame.locals r.names a store st (IsAmong outs) consume r.symbols r.part r.stands (store_sorted e r.symbols st.path sorts store of_sorts (r.stands).path) refl in
       let less = apart c.off c.left r.part r.kept own c.sums r.sums in
-      leaving_safe e p t duty (suc m) (frame ∷ callers) c.off less.0 own less.2
+      leaving_safe e p t duty (suc m) (frame ∷ callers) c.off less.0 own less.2 (λ s here none. absurd (none (leak_stands n st (suc m) frame callers own r stands s here)))
       (body_safe (go c.store c.state c.holds) (suc m) h i frame callers less.0
       (leaves_less e p t duty f k n st c.state (suc m) frame callers own less.0 r c.under c.left c.stands (typed_of_right e p c.off less.0 own less.2 r.typed) less.1))
-  body_safe {now} {soon} {n} {st} (may_call_lemma lemma ts outs holds inhabited long sorted consume go) (suc m) h i frame callers own r =
+  body_safe {now} {soon} {n} {st} (may_call_lemma lemma ts outs holds stands inhabited long sorted consume go) (suc m) h i frame callers own r =
       let c = lemma_called e p lemma ts outs st holds inhabited sorted consume frame.locals r.names r.symbols r.part r.stands (typed_of_left e p r.part r.kept own r.sums r.typed) in
       let less = apart c.leaked c.left r.part r.kept own c.sums r.sums in
       leaving_safe e p t duty (suc m) (frame ∷ callers) c.leaked less.0 own less.2
+      (λ s here none. elim (cases_Bool lemma.leaks) [ inl leaks ↦ absurd (none (leak_stands n st (suc m) frame callers own r (stands leaks) s here)) | inr leaks ↦ c.unleaked leaks ])
       (body_safe (go c.store c.state c.holds) (suc m) h i frame callers less.0
       (leaves_less e p t duty f k n st c.state (suc m) frame callers own less.0 r c.under c.left c.stands (typed_of_right e p c.leaked less.0 own less.2 r.typed) less.1))
   body_safe {now} {soon} {n} {st} (do_abort target g place next is named) (suc m) h i frame callers own r = abort_safe e p t duty f k n st m frame callers own target g place next r is named

@@ -94,6 +94,7 @@ module _ (e : Environment) (p : ProgramTree) (t : ℕ) (duties : Duties) (S : �
     own = own;
     given = nothing;
     leaked = nothing;
+    unleaked = λ none. refl;
     lost = nothing;
     handed = refl;
     parted = nothing_is_neutral nothing;

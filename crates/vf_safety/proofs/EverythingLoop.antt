@@ -194,7 +194,7 @@ returns =
 leaks : GoesIn (loop ∷ []) (loop ∷ []) 21 (at (head_locals None) behind_path (nodes_chunk written_share (symbol 0) ∷ []))
 leaks =
     may_leak nodes_of_head (Pointers ∷ []) (store_of (symbol 0 ∷ [])) (record { store = store_of (symbol 0 ∷ []); state = at (head_locals None) behind_path [] } ∷ [])
-    (first_sorted behind_path (symbol 0) (by_place behind_path 0 (OfSort (symbol 0) Pointers) refl)) (
+    refl (first_sorted behind_path (symbol 0) (by_place behind_path 0 (OfSort (symbol 0) Pointers) refl)) (
       nothing_bound (store_of (symbol 0 ∷ [])),
       (
         at (head_locals None) behind_path (nodes_chunk written_share (symbol 0) ∷ []),

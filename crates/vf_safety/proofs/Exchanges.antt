@@ -44,24 +44,33 @@ thread_leaked h = cc
 pub mutex_leaked : {b : ℕ} → OfMutex b ≢ Leaked
 mutex_leaked h = cc
 
+leaked_thread : {t : ℕ} → Leaked ≢ OfThread t
+leaked_thread h = cc
+
 -- ---- parts are dealt
--- A thread has another part, and so has one other owner; nobody else's part changes but for what was leaked
-pub record Dealt (t : ℕ) (o : Owner) (old : Owning) (own q all : Part) : Type 0 where
+-- what grows by a part does so where both are known otherwise
+still_grows : (leaked old new old2 new2 : Part) → old2 ≡ old → new2 ≡ new → IsSum leaked old2 new → IsSum leaked old new2
+still_grows leaked old new old2 new2 one two sums = subst (IsSum leaked old) (sym two) (subst (λ z. IsSum leaked z new) one sums)
+
+-- A thread has another part, and so has one other owner; what was leaked grows by a part, and nobody else's part changes
+pub record Dealt (t : ℕ) (o : Owner) (old : Owning) (own q leaked all : Part) : Type 0 where
   pub parts : Owning
   pub shared : Shared parts all
   pub own_is : parts (OfThread t) ≡ own
   pub there : parts o ≡ q
+  pub grows : IsSum leaked (old Leaked) (parts Leaked)
   pub same : (y : Owner) → y ≢ OfThread t → y ≢ Leaked → y ≢ o → parts y ≡ old y
 
 -- what is leaked goes to what was leaked
-record Leaking (parts : Owning) (given others : Part) : Type 0 where
+record Leaking (parts : Owning) (given leaked others : Part) : Type 0 where
   mid : Part
   new : Owning
   shared : Shared new mid
   others_are : IsSum given mid others
+  grows : IsSum leaked (parts Leaked) (new Leaked)
   same : (y : Owner) → y ≢ Leaked → new y ≡ parts y
 
-leaking : (parts : Owning) (rest given leaked lost others : Part) → Shared parts rest → IsSum given leaked lost → IsSum rest lost others → Leaking parts given others
+leaking : (parts : Owning) (rest given leaked lost others : Part) → Shared parts rest → IsSum given leaked lost → IsSum rest lost others → Leaking parts given leaked others
 leaking parts rest given leaked lost others shared parted given_up =
     let (mid, inner, outer) = apart given leaked lost rest others parted (sums_turn rest lost others given_up) in
     let a = added parts rest shared Leaked leaked mid inner in
@@ -70,6 +79,7 @@ leaking parts rest given leaked lost others shared parted given_up =
       new = with_part (with_part parts Leaked nothing) Leaked a.new;
       shared = a.shared;
       others_are = outer;
+      grows = subst (IsSum leaked (parts Leaked)) (sym (part_own (with_part parts Leaked nothing) Leaked a.new)) a.sums;
       same = λ y other. part_other (with_part parts Leaked nothing) Leaked a.new y other ∙ part_other parts Leaked nothing y other;
     }
 
@@ -81,7 +91,7 @@ module _ (t : ℕ) (old : Owning) (all : Part) (o : Opened old (OfThread t) all)
   beside_thread = with_part old (OfThread t) nothing
 
   -- nothing is given and nothing taken
-  pub deal_none : (own given leaked lost others new : Part) → given ≡ nothing → IsSum given leaked lost → IsSum o.rest lost others → IsSum own others new → (q : Part) × Dealt t Leaked old own q new
+  pub deal_none : (own given leaked lost others new : Part) → given ≡ nothing → IsSum given leaked lost → IsSum o.rest lost others → IsSum own others new → (q : Part) × Dealt t Leaked old own q leaked new
   deal_none own given leaked lost others new none parted given_up sums =
       let l = leaking beside_thread o.rest given leaked lost others o.shared parted given_up in (
         l.new Leaked,
@@ -89,13 +99,14 @@ module _ (t : ℕ) (old : Owning) (all : Part) (o : Opened old (OfThread t) all)
           parts = with_part l.new (OfThread t) own;
           shared = closed l.new others (subst (Shared l.new) (none_given given l.mid others none l.others_are) l.shared) (OfThread t) own new (l.same (OfThread t) thread_leaked ∙ part_own old (OfThread t) nothing) sums;
           own_is = part_own l.new (OfThread t) own;
-          there = part_other l.new (OfThread t) own Leaked (λ h. cc);
+          there = part_other l.new (OfThread t) own Leaked leaked_thread;
+          grows = still_grows leaked (old Leaked) (l.new Leaked) _ _ (part_other old (OfThread t) nothing Leaked leaked_thread) (part_other l.new (OfThread t) own Leaked leaked_thread) l.grows;
           same = λ y other unleaked apart1. part_other l.new (OfThread t) own y other ∙ l.same y unleaked ∙ part_other old (OfThread t) nothing y other;
         },
       )
 
   -- a part is given to an owner that has none
-  pub deal_to : (a : Owner) → a ≢ OfThread t → a ≢ Leaked → (own given leaked lost others new : Part) → old a ≡ nothing → IsSum given leaked lost → IsSum o.rest lost others → IsSum own others new → Dealt t a old own given new
+  pub deal_to : (a : Owner) → a ≢ OfThread t → a ≢ Leaked → (own given leaked lost others new : Part) → old a ≡ nothing → IsSum given leaked lost → IsSum o.rest lost others → IsSum own others new → Dealt t a old own given leaked new
   deal_to a not_own not_leaked own given leaked lost others new empty parted given_up sums =
       let l = leaking beside_thread o.rest given leaked lost others o.shared parted given_up in
       let none : l.new a ≡ nothing = l.same a not_leaked ∙ part_other old (OfThread t) nothing a not_own ∙ empty in
@@ -106,11 +117,12 @@ module _ (t : ℕ) (old : Owning) (all : Part) (o : Opened old (OfThread t) all)
         shared = closed next others (closed l.new l.mid l.shared a given others none l.others_are) (OfThread t) own new (part_other l.new a given (OfThread t) back ∙ l.same (OfThread t) thread_leaked ∙ part_own old (OfThread t) nothing) sums;
         own_is = part_own next (OfThread t) own;
         there = part_other next (OfThread t) own a not_own ∙ part_own l.new a given;
+        grows = still_grows leaked (old Leaked) (l.new Leaked) _ _ (part_other old (OfThread t) nothing Leaked leaked_thread) (part_other next (OfThread t) own Leaked leaked_thread ∙ part_other l.new a given Leaked (λ h. not_leaked (sym h))) l.grows;
         same = λ y other unleaked apart1. part_other next (OfThread t) own y other ∙ part_other l.new a given y apart1 ∙ l.same y unleaked ∙ part_other old (OfThread t) nothing y other;
       }
 
   -- the part of an owner is taken
-  pub deal_from : (a : Owner) → a ≢ OfThread t → a ≢ Leaked → (m : Opened beside_thread a o.rest) (own given leaked lost others new : Part) → given ≡ nothing → IsSum given leaked lost → IsSum m.rest lost others → IsSum own others new → Dealt t a old own nothing new
+  pub deal_from : (a : Owner) → a ≢ OfThread t → a ≢ Leaked → (m : Opened beside_thread a o.rest) (own given leaked lost others new : Part) → given ≡ nothing → IsSum given leaked lost → IsSum m.rest lost others → IsSum own others new → Dealt t a old own nothing leaked new
   deal_from a not_own not_leaked m own given leaked lost others new none parted given_up sums =
       let parts = with_part beside_thread a nothing in
       let l = leaking parts m.rest given leaked lost others m.shared parted given_up in
@@ -120,6 +132,7 @@ module _ (t : ℕ) (old : Owning) (all : Part) (o : Opened old (OfThread t) all)
         shared = closed l.new others (subst (Shared l.new) (none_given given l.mid others none l.others_are) l.shared) (OfThread t) own new
             (l.same (OfThread t) thread_leaked ∙ part_other beside_thread a nothing (OfThread t) back ∙ part_own old (OfThread t) nothing) sums;
         own_is = part_own l.new (OfThread t) own;
+        grows = still_grows leaked (old Leaked) (l.new Leaked) _ _ (part_other beside_thread a nothing Leaked (λ h. not_leaked (sym h)) ∙ part_other old (OfThread t) nothing Leaked leaked_thread) (part_other l.new (OfThread t) own Leaked leaked_thread) l.grows;
         there = part_other l.new (OfThread t) own a not_own ∙ l.same a not_leaked ∙ part_own beside_thread a nothing;
         same = λ y other unleaked apart1. part_other l.new (OfThread t) own y other ∙ l.same y unleaked ∙ part_other beside_thread a nothing y apart1 ∙ part_other old (OfThread t) nothing y other;
       }
@@ -145,14 +158,15 @@ HasExchanged e (to_thread frames d q) s parts = parts (OfThread (length s.thread
 HasExchanged e (to_joinable b frames d q) s parts = parts (OfThread (length s.threads)) ≡ q
 HasExchanged e (from_thread b u run argument info) s parts = parts (OfThread u) ≡ nothing
 
--- after an event of a thread its part is another, the parts that were not exchanged are as before, and all is shared out
-pub record Passed (e : Environment) (t : ℕ) (x : Exchange) (s : State) (old : Owning) (own all : Part) : Type 0 where
+-- after an event of a thread its part is another, the parts that were not exchanged are as before, what was leaked grows by a part, and all is shared out
+pub record Passed (e : Environment) (t : ℕ) (x : Exchange) (s : State) (old : Owning) (own leaked all : Part) : Type 0 where
   pub parts : Owning
   pub shared : Shared parts all
   pub own_is : parts (OfThread t) ≡ own
   pub threads : (u : ℕ) → u ≢ t → (Starts x s u → ⊥) → (Joins x u → ⊥) → parts (OfThread u) ≡ old (OfThread u)
   pub mutexes : (b : ℕ) → (OfMutexPart x b → ⊥) → parts (OfMutex b) ≡ old (OfMutex b)
   pub exchanged : HasExchanged e x s parts
+  pub grows : IsSum leaked (old Leaked) (parts Leaked)
 
 pub concerned : (x : Exchange) (b : ℕ) → Concerns x b ⊎ (Concerns x b → ⊥)
 concerned no_exchange b = inr (λ h. h)

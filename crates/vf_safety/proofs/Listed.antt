@@ -142,7 +142,7 @@ any_number b (k ∷ ks) h = by_first (is_eq (nat_cmp b k)) (list_any (eq_by_cmp 
     by_first true d is h go = inl (tied b k is)
     by_first false d is h go = inr (go h)
 
-there_number : (m : Memory) (b : ℕ) (block : Block) → block_at m b ≡ Some block → IsNumberOf b (finite.keys m)
+pub there_number : (m : Memory) (b : ℕ) (block : Block) → block_at m b ≡ Some block → IsNumberOf b (finite.keys m)
 there_number m b block is = any_number b (finite.keys m) (sym (finite.contains_key-keys m b) ∙ ap is_some is)
 
 -- ---- the sum of a share-out

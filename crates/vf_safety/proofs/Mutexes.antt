@@ -6,7 +6,7 @@ use Rattle.vf_base.specs.declared.place.Place.{Place}
 use Rattle.vf_tree.specs.Core.{Identity, TypeTree, Void, ExpressionTree, Call, FunctionTree, ProgramTree}
 use Rattle.vf_model.specs.declared.words.FaultKind.{FaultKind}
 use Rattle.vf_model.specs.declared.words.FaultKind.TheVariants as faults
-use Rattle.vf_model.specs.Values.{Dyadic, Value}
+use Rattle.vf_model.specs.Values.{Dyadic, Value, Values}
 use Rattle.vf_model.specs.Values as values
 use Rattle.vf_model.specs.Memory.{Memory, Struct, Mutex, block_at, granted_block, pointed_at}
 use Rattle.vf_model.specs.State.{Frame, Thread, State, Turn, Aborted, at_step, with_frames, over_memory, goes_on, ended}
@@ -19,20 +19,20 @@ use Rattle.vf_model.specs.Calls.{argument, acquires, releases, disposes}
 use Rattle.vf_meaning.specs.Fractions.{whole, sum, product, IsPositive, AtMost}
 use Rattle.vf_meaning.specs.Ghost.{Numbered, CurrentThread, Fractions}
 use Rattle.vf_meaning.specs.Valuations.{Valuation, fraction_in}
-use Rattle.vf_meaning.specs.Assertions.{ContractTree, Environment}
+use Rattle.vf_meaning.specs.Assertions.{Plain, ContractTree, Environment}
 use Rattle.vf_meaning.specs.Sorts.{HasSort, AreOfSorts}
 use Rattle.vf_meaning.specs.Parts.{Location, FieldCell, IndexCell, StructBlock, IntBlock, MutexAt, HeldAt, HandleAt, MutexOf, HeldOf, block_of, Part, nothing, single, ◌⊕◌, IsSum, HasJust}
 use Rattle.vf_meaning.specs.Fits.{HoldsMutex, FitsMutex, FitsAt, Fits}
 use Rattle.vf_meaning.specs.FitLaws.{IsAllOf}
 use Rattle.vf_meaning.specs.Chunks.{product_if, start_of}
-use Rattle.vf_meaning.specs.Satisfaction.{Satisfies, SatisfiesValue, MeansAt}
+use Rattle.vf_meaning.specs.Satisfaction.{Satisfies, SatisfiesValue, SatisfiesIf, MeansAt}
 use Rattle.vf_meaning.specs.ShareOuts.{SatisfiesInvariant}
 use Rattle.vf_meaning.specs.Kept.{Ensures}
 use Rattle.vf_meaning.proofs.Fractions.{whole_scales_nothing, sum_associates}
 use Rattle.vf_meaning.proofs.Parts.{sums_turn, nothing_is_neutral, nothing-⊕, in_left, in_right, single_here, not_nought, positive_right, no_more, sum_at, singles_have_just_that, same_or_not}
 use Rattle.vf_meaning.proofs.FitSteps.{mutexes_are_there, held_are_there, mutexes_are_acquired, mutexes_are_released, blocks_are_added, blocks_are_freed, block_here, block_elsewhere, removed_here, removed_elsewhere, single_nought}
 use Rattle.vf_rules.specs.Types.{IsTypedPart}
-use Rattle.vf_rules.specs.Mutexes.{invariants, creation, acquisition, release, disposal}
+use Rattle.vf_rules.specs.Mutexes.{create_mutex_ghost_arg_name, ghost_arg_body, invariants, creation, acquisition, release, disposal}
 use Rattle.vf_safety.specs.Safe.{Duties, Within, IsSharedPlace, IsShaped, IsHandle, from_mutex, to_mutex, Went, Exchanged, Secure, IsResult}
 use Rattle.vf_safety.proofs.Steps.{StartsNone, in_call, not_started, Here, turn_of, apart, together, known_beside, quietly, secure_by, went_exchanging, not_left, not_called, typed_sum, typed_single, typed_of_left, typed_of_right}
 use Rattle.vf_safety.proofs.Prelude.{prelude_act, ended_went, result_then_step}
@@ -142,20 +142,17 @@ release_asks e names t off thread (n, (held, inside, sums, (c, share, m), (d, ot
   satisfies = (n, subst (λ x. SatisfiesValue (MeansAt e n) x (names (Numbered 1)) [] inside) (full_is other.is) inv);
 }
 
--- a part that satisfies a predicate value is owned, beside another
-record OwnsInvariant (e : Environment) (names : Valuation) (invariant : ℕ) (off : Part) : Type 0 where
-  beside : Part
-  inside : Part
-  sums : IsSum beside inside off
-  satisfies : SatisfiesInvariant e (names (Numbered invariant)) inside
+-- what names the predicate value of a new mutex owns nothing
+argument_is_nothing : (e : Environment) (n : ℕ) (x : Dyadic) (vs : Values) (q : Part) → e.bodies (Plain create_mutex_ghost_arg_name) ≡ Some ghost_arg_body → MeansAt e n x (Plain create_mutex_ghost_arg_name) vs q → q ≡ nothing
+argument_is_nothing e zero x vs q body h = absurd h
+argument_is_nothing e (suc n) x vs q body h = ((subst (λ b. SatisfiesIf e (MeansAt e n) x b vs q) body h).satisfies).0
 
-creation_asks : (e : Environment) (names : Valuation) (off : Part) → Satisfies e whole creation.requires_this names off → OwnsInvariant e names 0 off
-creation_asks e names off (n, (beside, inside, sums, named, (d, other, inv))) = record {
-  beside = beside;
-  inside = inside;
-  sums = sums;
-  satisfies = (n, subst (λ x. SatisfiesValue (MeansAt e n) x (names (Numbered 0)) [] inside) (full_is other.is) inv);
-}
+-- what a creation asks for satisfies the predicate value
+creation_asks : (e : Environment) (names : Valuation) (off : Part) → e.bodies (Plain create_mutex_ghost_arg_name) ≡ Some ghost_arg_body → Satisfies e whole creation.requires_this names off → SatisfiesInvariant e (names (Numbered 0)) off
+creation_asks e names off body (n, (beside, inside, sums, (c, share, (vs, meet, named)), (d, other, inv))) =
+    let none = argument_is_nothing e n (product whole c) vs beside body named in
+    let all_is : off ≡ inside = sums.adds ∙ ap (λ z. z ⊕ inside) none ∙ nothing-⊕ inside in
+    (n, subst (SatisfiesValue (MeansAt e n) whole (names (Numbered 0)) []) (sym all_is) (subst (λ x. SatisfiesValue (MeansAt e n) x (names (Numbered 0)) [] inside) (full_is other.is) inv))
 
 -- ---- what each contract ensures of a part
 acquisition_ensures : (e : Environment) (names : Valuation) (t b : ℕ) (x : Dyadic) (held taken q : Part) → AreOfSorts e names acquisition.sorts → names (Numbered 0) ≡ start_of b → names (Numbered 1) ≡ values.Fraction x → names CurrentThread ≡ values.Number (pos t)
@@ -400,7 +397,7 @@ module _ (e : Environment) (p : ProgramTree) (t : ℕ) (duties : Duties) (S : �
               went = λ taken remaining is parted.
                   let x = takes_in held taken inner rest remaining outer now.all parted beside now.sums in
                   went_exchanging e p t duties S (from_mutex b q) s f frame callers (Call target g operands place next) (at_step frame next ∷ callers) (finite.insert s.memory b (Mutex (Some t))) x.own remaining all now.all at (subst StartsNone (sym named) tt) tt (in_call asks.within)
-                  (record { given = nothing; leaked = nothing; lost = nothing; others = remaining; handed = refl; parted = nothing_is_neutral nothing; given_up = sums_turn nothing remaining remaining (nothing_is_neutral remaining); sums = x.sums })
+                  (record { given = nothing; others = remaining; handed = refl; given_up = sums_turn nothing remaining remaining (nothing_is_neutral remaining); sums = x.sums })
                   now.fits typed (mutex_shaped p s.memory b (Some t) asks.shaped)
                   (record {
                     unshared = λ d other shared. block_elsewhere s.memory b d (Mutex (Some t)) other;
@@ -441,7 +438,7 @@ module _ (e : Environment) (p : ProgramTree) (t : ℕ) (duties : Duties) (S : �
           started = λ grant0 call same h. not_started e p t duties S s f frame callers (Call target g operands place next) at (subst StartsNone (sym named) tt) grant0 call h;
           went = λ taken remaining is parted. subst (λ z. Went e p t S (to_mutex b q) duties s (with_frames (over_memory turn (finite.insert s.memory b (Mutex None))) (at_step frame next ∷ callers)) z all) (none_taken taken remaining rest is parted)
               (went_exchanging e p t duties S (to_mutex b q) s f frame callers (Call target g operands place next) (at_step frame next ∷ callers) (finite.insert s.memory b (Mutex None)) x.own rest all now.all at (subst StartsNone (sym named) tt) tt (in_call asks.within)
-              (record { given = m.inside; leaked = nothing; lost = m.inside; others = x.others; handed = m.satisfies; parted = sums_turn nothing m.inside m.inside (nothing_is_neutral m.inside); given_up = x.away; sums = x.sums })
+              (record { given = m.inside; others = x.others; handed = m.satisfies; given_up = x.away; sums = x.sums })
               now.fits typed (mutex_shaped p s.memory b None asks.shaped)
               (record {
                 unshared = λ d other shared. block_elsewhere s.memory b d (Mutex None) other;
@@ -454,9 +451,9 @@ module _ (e : Environment) (p : ProgramTree) (t : ℕ) (duties : Duties) (S : �
         })
 
     -- a mutex is created, or the run aborts
-    pub create_secure : Here p s t f frame callers (Call target g operands place next) → slice_get s.threads t ≡ Some (frame ∷ callers) → evaluate_all frame.locals operands ≡ Gives ws → prelude_named g ≡ Some CreateMutex → Asks e p t duties creation s callers ws names off inner own rest all
+    pub create_secure : e.bodies (Plain create_mutex_ghost_arg_name) ≡ Some ghost_arg_body → Here p s t f frame callers (Call target g operands place next) → slice_get s.threads t ≡ Some (frame ∷ callers) → evaluate_all frame.locals operands ≡ Gives ws → prelude_named g ≡ Some CreateMutex → Asks e p t duties creation s callers ws names off inner own rest all
         → Follows creation pointer_to_mutex names inner target frame next callers → Secure e p t S duties s own rest all
-    create_secure at frames value named asks go =
+    create_secure body at frames value named asks go =
         let turn = turn_of s t frame callers in
         let granted : ℕ → State = λ b. with_frames (over_memory turn (finite.insert s.memory b (Mutex None))) (at_step (state.with_result frame target (Some (start_of b))) next ∷ callers) in
         secure_by e p t duties S s f frame callers (Call target g operands place next) own rest all (Allocates (ended s Aborted) granted) at (prelude_act p s t frame callers target g operands place next CreateMutex ws value named)
@@ -473,7 +470,6 @@ module _ (e : Environment) (p : ProgramTree) (t : ℕ) (duties : Duties) (S : �
         created : (b : ℕ) → block_at s.memory b ≡ None → Here p s t f frame callers (Call target g operands place next) → prelude_named g ≡ Some CreateMutex → Asks e p t duties creation s callers ws names off inner own rest all → Follows creation pointer_to_mutex names inner target frame next callers
             → Exchanged e p t S duties s (with_frames (over_memory (turn_of s t frame callers) (finite.insert s.memory b (Mutex None))) (at_step (state.with_result frame target (Some (start_of b))) next ∷ callers)) rest all
         created b free at named asks go =
-            let m = creation_asks e names off asks.required in
             let q = names (Numbered 0) in
             let new = single (MutexAt b) (MutexOf q) whole in
             let (outer, beside, sums) = apart off inner own rest all asks.parted asks.sums in
@@ -486,7 +482,7 @@ module _ (e : Environment) (p : ProgramTree) (t : ℕ) (duties : Duties) (S : �
               started = λ grant0 call same h. not_started e p t duties S s f frame callers (Call target g operands place next) at (subst StartsNone (sym named) tt) grant0 call h;
               went = λ taken remaining is parted. subst (λ z. Went e p t S (to_mutex b q) duties s (with_frames (over_memory (turn_of s t frame callers) (finite.insert s.memory b (Mutex None))) (at_step (state.with_result frame target (Some (start_of b))) next ∷ callers)) z all) (none_taken taken remaining rest is parted)
                   (went_exchanging e p t duties S (to_mutex b q) s f frame callers (Call target g operands place next) (at_step (state.with_result frame target (Some (start_of b))) next ∷ callers) (finite.insert s.memory b (Mutex None)) x.own rest all now.all at (subst StartsNone (sym named) tt) tt (in_call asks.within)
-                  (record { given = m.inside; leaked = m.beside; lost = off; others = x.others; handed = m.satisfies; parted = sums_turn m.beside m.inside off m.sums; given_up = x.away; sums = x.sums })
+                  (record { given = off; others = x.others; handed = creation_asks e names off body asks.required; given_up = x.away; sums = x.sums })
                   now.fits typed (mutex_shaped p s.memory b None asks.shaped)
                   (record {
                     unshared = λ d other shared. block_elsewhere s.memory b d (Mutex None) other;
@@ -525,7 +521,7 @@ module _ (e : Environment) (p : ProgramTree) (t : ℕ) (duties : Duties) (S : �
               let (others, left, out) = apart taken remaining rest inner outer parted (sums_turn inner rest outer beside) in
               let (mine, within, all_is) = together taken inner remaining others outer (sums_turn remaining inner others left) out in
               went_exchanging e p t duties S (from_mutex b q) s f frame callers (Call target g operands place next) (at_step frame next ∷ callers) (finite.remove s.memory b) mine remaining all outer at (subst StartsNone (sym named) tt) tt (in_call asks.within)
-              (record { given = nothing; leaked = nothing; lost = nothing; others = remaining; handed = refl; parted = nothing_is_neutral nothing; given_up = sums_turn nothing remaining remaining (nothing_is_neutral remaining); sums = all_is })
+              (record { given = nothing; others = remaining; handed = refl; given_up = sums_turn nothing remaining remaining (nothing_is_neutral remaining); sums = all_is })
               freed typed (removed_shaped p s.memory b asks.shaped)
               (record {
                 unshared = λ d other shared. removed_elsewhere s.memory b d other;

@@ -61,6 +61,7 @@ module _ (e : Environment) (p : ProgramTree) (t : ℕ) (duties : Duties) (S : �
     own = own;
     given = nothing;
     leaked = nothing;
+    unleaked = λ none. refl;
     lost = nothing;
     handed = refl;
     parted = nothing_is_neutral nothing;
@@ -98,6 +99,7 @@ module _ (e : Environment) (p : ProgramTree) (t : ℕ) (duties : Duties) (S : �
     own = own;
     given = nothing;
     leaked = nothing;
+    unleaked = λ none. refl;
     lost = nothing;
     handed = refl;
     parted = nothing_is_neutral nothing;

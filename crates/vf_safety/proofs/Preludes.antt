@@ -18,7 +18,7 @@ use Rattle.vf_safety.proofs.Threads.{ThreadsBegin, start_secure, start_joinable_
 module _ (e : Environment) (p : ProgramTree) (t : ℕ) (duties : Duties) (S : ℕ → Duties → Thread → Part → Type 0) (s : State) (f : FunctionTree) (frame : Frame) (callers : Thread) (target : Option ℕ) (g : Identity) (operands : List ExpressionTree) (place : Place) (next : ℕ) (ws : List Value) (names : Valuation) (off inner own rest all : Part) where
   pub prelude_secure : (function : PreludeFunction) (contract : ContractTree) → HasPreludeContract e p function contract → Here p s t f frame callers (Call target g operands place next) → evaluate_all frame.locals operands ≡ Gives ws → prelude_named g ≡ Some function
       → Asks e p t duties contract s callers ws names off inner own rest all → ThreadsBegin e p t duties S → Follows e p t duties S contract (signature_of function).result names inner target frame next callers → Secure e p t S duties s own rest all
-  prelude_secure _ _ creates at value named asks begin go = create_secure e p t duties S s f frame callers target g operands place next ws names off inner own rest all at at.frames value named asks go
+  prelude_secure _ _ (creates body) at value named asks begin go = create_secure e p t duties S s f frame callers target g operands place next ws names off inner own rest all body at at.frames value named asks go
   prelude_secure _ _ acquires at value named asks begin go = acquire_secure e p t duties S s f frame callers target g operands place next ws names off inner own rest all at value named asks go
   prelude_secure _ _ releases at value named asks begin go = release_secure e p t duties S s f frame callers target g operands place next ws names off inner own rest all at value named asks go
   prelude_secure _ _ disposes at value named asks begin go = dispose_secure e p t duties S s f frame callers target g operands place next ws names off inner own rest all at value named asks go

@@ -333,6 +333,7 @@ module _ (e : Environment) (p : ProgramTree) (a : IsAcceptedProgram e p) (events
     required = (begun e p a).required;
     unleaked = refl;
     changes = λ k event is. record { threads = λ u other known same. (moved_at k event is).threads u other known same; mutexes = λ b same. (moved_at k event is).mutexes b same };
+    leaks = λ k event is. (moved_at k event is).leaks;
     calls = λ k event call is h. call_kept k event call is h;
     starts = λ k event call is h. start_kept k event call is h;
     ensured = λ j event result is first returns last. main_done j event result is first returns last;

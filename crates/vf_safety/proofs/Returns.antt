@@ -64,6 +64,7 @@ module _ (e : Environment) (p : ProgramTree) (t : ℕ) (duty : Duties) (f : Func
           own = own;
           given = nothing;
           leaked = nothing;
+          unleaked = λ none. refl;
           lost = nothing;
           handed = refl;
           parted = nothing_is_neutral nothing;
@@ -94,6 +95,7 @@ module _ (e : Environment) (p : ProgramTree) (t : ℕ) (duty : Duties) (f : Func
           own = own;
           given = nothing;
           leaked = nothing;
+          unleaked = λ none. refl;
           lost = nothing;
           handed = refl;
           parted = nothing_is_neutral nothing;
@@ -125,6 +127,7 @@ module _ (e : Environment) (p : ProgramTree) (t : ℕ) (duty : Duties) (f : Func
     own = own;
     given = nothing;
     leaked = nothing;
+    unleaked = λ none. refl;
     lost = nothing;
     handed = refl;
     parted = nothing_is_neutral nothing;

@@ -15,7 +15,7 @@ use Rattle.vf_model.specs.Runs.{after, opening, Fault}
 use Rattle.vf_meaning.specs.Assertions.{Environment}
 use Rattle.vf_meaning.specs.Parts.{Location}
 use Rattle.vf_meaning.specs.ShareOuts.{IsHandleOf, location_in, OwnsFor, IsShareOut}
-use Rattle.vf_meaning.specs.Kept.{before, depth, Returns, Promise, CallsPointer, StartsThread, IsSafe}
+use Rattle.vf_meaning.specs.Kept.{before, depth, Returns, Promise, CallsPointer, StartsThread, Leaks, IsSafe}
 use Rattle.vf_meaning.proofs.ShareOuts.{share_outs_exclude_races}
 use Rattle.vf_safety.specs.Safe.{Duty, DoneAt, DutiesChange, Promised}
 use Rattle.vf_safety.proofs.Owners.{OfThread, OfMutex, opened}
@@ -59,6 +59,7 @@ module _ (e : Environment) (p : ProgramTree) (duty : Duty) where
         → (b.world).parts (OfThread u) ≡ (a.world).parts (OfThread u)
     pub mutexes : (d : ℕ) → block_at (before p events (suc k)).memory d ≡ block_at (before p events k).memory d → (b.world).parts (OfMutex d) ≡ (a.world).parts (OfMutex d)
     pub changes : (u : ℕ) → u < length (before p events k).threads → DutiesChange (depth (before p events k) u) (depth (before p events (suc k)) u) ((a.world).duties u) ((b.world).duties u)
+    pub leaks : Leaks e p (before p events k) event.thread (out_of (a.world).parts) (out_of (b.world).parts)
     pub called : (call : Promise) → CallsPointer e p (before p events k) event call → Promised e call ((a.world).duties event.thread) ((b.world).duties event.thread) ((b.world).parts (OfThread event.thread))
     pub leaves : (result : Option Value) → Returns p (before p events k) event.thread result → (n : ℕ) → depth (before p events k) event.thread ≡ suc n → DoneAt e n ((a.world).duties event.thread) result ((b.world).parts (OfThread event.thread))
     pub starts : (call : Promise) → StartsThread p (before p events k) event call → IsBegun e p duty call ((b.world).duties call.thread) ((b.world).parts (OfThread call.thread))
@@ -83,6 +84,7 @@ module _ (e : Environment) (p : ProgramTree) (duty : Duty) where
           threads = λ u other known kept. n.threads u other known (λ c h. sym (ap (λ z. block_at z.memory c) same) ∙ kept c h);
           mutexes = λ d as_before. n.mutexes d (sym (ap (λ z. block_at z.memory d) same) ∙ as_before);
           changes = λ u known. subst (λ z. DutiesChange (depth (before p events k) u) (depth z u) (world.duties u) ((n.world).duties u)) (sym same) (n.changes u known);
+          leaks = n.leaks;
           called = n.called;
           leaves = n.leaves;
           starts = n.starts;

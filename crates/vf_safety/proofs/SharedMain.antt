@@ -19,13 +19,13 @@ use Rattle.vf_rules.specs.Types.{type_of_field, facts_of_type}
 use Rattle.vf_rules.specs.Take.{same, takes_all, takes_part, takes_later, removes_here, removes_later, no_change, and_change, makes_value, replaces_here, replaces_later}
 use Rattle.vf_rules.specs.Consume.{EntailsAll}
 use Rattle.vf_rules.specs.Predicates.{store_of, Closes}
-use Rattle.vf_rules.specs.Mutexes.{create_mutex_ghost_arg_name, invariants, creation, acquisition, release}
+use Rattle.vf_rules.specs.Mutexes.{create_mutex_ghost_arg_name, ghost_arg_body, invariants, creation, acquisition, release}
 use Rattle.vf_rules.specs.Threads.{thread_run_pre, thread_run_joinable, run_joinable, start_joinable, HasSignature, IsRunType, creates, acquires, releases, starts_joinable}
 use Rattle.vf_rules.specs.Claims.{KeepsClaim}
 use Rattle.vf_rules.specs.Accept.{all_of_it, AreFixed, call_store, cell_chunk, HasContract, do_allocate, do_if, do_abort, do_store, do_prelude, may_drop, may_close, IsAcceptedFunction}
 use Rattle.vf_safety.specs.Laws.{AreAccepted}
 use Rattle.vf_safety.specs.Example.{somewhere, box_contract}
-use Rattle.vf_safety.specs.Sharing.{counter_name, count_field, mutex_field, tick_name, tick, sharing_main, sharing_program, ghost_arg_body, shared_body, tick_contract, sharing_environment, SharingIsAccepted}
+use Rattle.vf_safety.specs.Sharing.{counter_name, count_field, mutex_field, tick_name, tick, sharing_main, sharing_program, shared_body, tick_contract, sharing_environment, SharingIsAccepted}
 use Rattle.vf_safety.proofs.NewSymbols.{fresh_stored, fresh_call, fresh_state, new_symbol}
 use Rattle.vf_safety.proofs.SharingFacts.{none_some, some_same, among_one, same_self, by_value, by_place, guarded_sorted, half_sorted, half_quotient, halves, whole_fraction, nothing_bound, name_bound, first_bound, inhabited, sorted, fixed_stored, call_fixed, integer_is_no_void}
 use Rattle.vf_safety.proofs.SharedTick.{written_share, half_at, mutex_chunk, applied_chunk, guarded_chunk, pre_chunk, tick_has, tick_accepted}
@@ -358,7 +358,7 @@ new_cell = cell_chunk mutex_field (symbol 0) None
 creates_it : Goes 3 (at one_local path1 (new_cell ∷ block ∷ guarded_chunk all_of_it (symbol 0) ∷ arg_chunk ∷ []))
 creates_it =
     do_prelude (Some 1) (identity_of CreateMutex) [] somewhere 4 CreateMutex creation [] (record { store = stored create_store Result (symbol 1); state = at two_locals path2 (new_cell ∷ block ∷ mutex_new ∷ []) } ∷ [])
-    refl refl creates refl (inhabited creation.sorts (tt, tt)) (λ h. absurd (pointer_no_void h)) tt refl (sorted path1 creation.sorts [] tt) (
+    refl refl (creates refl) refl (inhabited creation.sorts (tt, tt)) (λ h. absurd (pointer_no_void h)) tt refl (sorted path1 creation.sorts [] tt) (
       nothing_bound (call_store []),
       (
         at one_local path1 (new_cell ∷ block ∷ guarded_chunk all_of_it (symbol 0) ∷ arg_chunk ∷ []),

@@ -153,15 +153,12 @@ pub record Unshared (x : Exchange) (m new : Memory) (before all : Part) : Type 0
   pub unmoved : (b : ℕ) → (Concerns x b → ⊥) → IsShared (block_at m b) → block_at new b ≡ block_at m b
   pub known : (l : Location) (c : Content) → IsSharedPlace l → (Concerns x (block_of l) → ⊥) → IsPositive (all l c) → IsPositive (before l c)
 
--- what a thread gives and leaks goes over to the others
+-- what a thread gives goes over to the others
 pub record HandsOver (e : Environment) (x : Exchange) (rest own all : Part) : Type 0 where
   pub given : Part
-  pub leaked : Part
-  pub lost : Part
   pub others : Part
   pub handed : IsGiven e x given
-  pub parted : IsSum given leaked lost
-  pub given_up : IsSum rest lost others
+  pub given_up : IsSum rest given others
   pub sums : IsSum own others all
 
 module _ (e : Environment) (p : ProgramTree) (t : ℕ) (duties : Duties) (S : ℕ → Duties → Thread → Part → Type 0) where
@@ -221,6 +218,7 @@ module _ (e : Environment) (p : ProgramTree) (t : ℕ) (duties : Duties) (S : �
     own = own;
     given = nothing;
     leaked = nothing;
+    unleaked = λ none. refl;
     lost = nothing;
     handed = refl;
     parted = nothing_is_neutral nothing;
@@ -284,10 +282,11 @@ module _ (e : Environment) (p : ProgramTree) (t : ℕ) (duties : Duties) (S : �
     frames = frames;
     own = own;
     given = over.given;
-    leaked = over.leaked;
-    lost = over.lost;
+    leaked = nothing;
+    unleaked = λ none. refl;
+    lost = over.given;
     handed = over.handed;
-    parted = over.parted;
+    parted = sums_turn nothing over.given over.given (nothing_is_neutral over.given);
     others = over.others;
     all = all;
     given_up = over.given_up;
@@ -317,7 +316,7 @@ module _ (e : Environment) (p : ProgramTree) (t : ℕ) (duties : Duties) (S : �
       → S t duties frames own → Went e p t S no_exchange duties s (with_frames (over_memory (turn_of s t frame callers) m) frames) rest before
   went_over s f frame callers step frames m own rest before all here direct inside within sums fits typed shaped as_before safe =
       went_exchanging no_exchange s f frame callers step frames m own rest before all here direct inside within
-      (record { given = nothing; leaked = nothing; lost = nothing; others = rest; handed = refl; parted = nothing_is_neutral nothing; given_up = sums_turn nothing rest rest (nothing_is_neutral rest); sums = sums }) fits typed shaped as_before tt tt safe
+      (record { given = nothing; others = rest; handed = refl; given_up = sums_turn nothing rest rest (nothing_is_neutral rest); sums = sums }) fits typed shaped as_before tt tt safe
 
   -- a step that touches and goes to another memory
   pub writing_secure : (s : State) (f : FunctionTree) (frame : Frame) (callers : Thread) (step : StepTree) (touch : Touch) (frames : Thread) (m : Memory) (own rest all own' all' : Part) → Here p s t f frame callers step → IsDirect step → IsInside step → InCall frames duties

@@ -294,10 +294,11 @@ module _ (e : Environment) (p : ProgramTree) (t : ℕ) (duties : Duties) (S : �
     frames = frames;
     own = own;
     given = over.given;
-    leaked = over.leaked;
-    lost = over.lost;
+    leaked = nothing;
+    unleaked = λ none. refl;
+    lost = over.given;
     handed = over.handed;
-    parted = over.parted;
+    parted = sums_turn nothing over.given over.given (nothing_is_neutral over.given);
     others = over.others;
     all = all;
     given_up = over.given_up;
@@ -383,7 +384,7 @@ module _ (e : Environment) (p : ProgramTree) (t : ℕ) (duties : Duties) (S : �
           started = λ grant0 call same h. start_promised thread_run run a at value asks.begins type.of_type refl (run_sorted e names a.function u asks.of_sorts) (λ starter other with_it is. plain_type starter other with_it (ap prelude_named is ∙ named)) grant0 call h;
           went = λ taken remaining is parted. subst (λ z. Went e p t S (to_thread (first ∷ []) d off) duties s (started_state s frame callers first s.memory (at_step frame next ∷ callers)) z all) (none_taken taken remaining rest is parted)
               (started_went (to_thread (first ∷ []) d off) s f frame callers target g operands place next first s.memory (at_step frame next ∷ callers) inner rest all all at (in_call asks.within)
-              (record { given = off; leaked = nothing; lost = off; others = others; handed = refl; parted = sums_turn nothing off off (nothing_is_neutral off); given_up = away; sums = left })
+              (record { given = off; others = others; handed = refl; given_up = away; sums = left })
               asks.fits asks.typed asks.shaped (record { unshared = λ b apart1 h. refl; unmoved = λ b apart1 h. refl; known = λ k c shared apart1 h. h }) tt (λ v h. h)
               (λ there. record {
                 there = there;
@@ -440,7 +441,7 @@ module _ (e : Environment) (p : ProgramTree) (t : ℕ) (duties : Duties) (S : �
           started = λ grant0 call same h. start_promised thread_run_joinable run_joinable a at value asks.begins type.of_type refl (joinable_sorted e names k u asks.of_sorts) (λ starter other with_it is. joinable_type starter other with_it (ap prelude_named is ∙ named)) grant0 call h;
           went = λ taken remaining is parted. subst (λ z. Went e p t S (to_joinable b (first ∷ []) d off) duties s (started_state s frame callers first m frames) z all) (none_taken taken remaining rest is parted)
               (started_went (to_joinable b (first ∷ []) d off) s f frame callers target g operands place next first m frames x.own rest all now.all at (in_call asks.within)
-              (record { given = off; leaked = nothing; lost = off; others = x.others; handed = refl; parted = sums_turn nothing off off (nothing_is_neutral off); given_up = x.away; sums = x.sums })
+              (record { given = off; others = x.others; handed = refl; given_up = x.away; sums = x.sums })
               now.fits typed (handle_shaped p s.memory b u k (names (Numbered 1)) asks.shaped)
               (record {
                 unshared = λ c other shared. block_elsewhere s.memory b c (Handle u k (names (Numbered 1))) other;
@@ -541,7 +542,7 @@ module _ (e : Environment) (p : ProgramTree) (t : ℕ) (duties : Duties) (S : �
                   let (others, left, out) = apart taken remaining rest inner outer parted (sums_turn inner rest outer beside) in
                   let (mine, within, all_is) = together taken inner remaining others outer (sums_turn remaining inner others left) out in
                   went_exchanging e p t duties S (from_thread b u k (names (Numbered 2)) (names (Numbered 3))) s f frame callers (Call target g operands place next) (at_step frame next ∷ callers) (finite.remove s.memory b) mine remaining all outer at (subst StartsNone (sym named) tt) tt (in_call asks.within)
-                  (record { given = nothing; leaked = nothing; lost = nothing; others = remaining; handed = refl; parted = nothing_is_neutral nothing; given_up = sums_turn nothing remaining remaining (nothing_is_neutral remaining); sums = all_is })
+                  (record { given = nothing; others = remaining; handed = refl; given_up = sums_turn nothing remaining remaining (nothing_is_neutral remaining); sums = all_is })
                   freed typed (removed_shaped p s.memory b asks.shaped)
                   (record {
                     unshared = λ d other shared. removed_elsewhere s.memory b d other;

@@ -15,13 +15,14 @@ use Rattle.vf_meaning.specs.Fractions.{IsPositive}
 use Rattle.vf_meaning.specs.Assertions.{Environment}
 use Rattle.vf_meaning.specs.Parts.{MutexAt, HandleAt, MutexOf, HandleOf, Part, nothing, IsSum}
 use Rattle.vf_meaning.specs.ShareOuts.{Ended, IsHandleOf, SatisfiesInvariant, SatisfiesPost}
-use Rattle.vf_meaning.specs.Kept.{depth_in, depth, Returns, Promise, CallsPointer, StartsThread}
+use Rattle.vf_meaning.specs.Kept.{depth_in, depth, Returns, Promise, CallsPointer, StartsThread, Leaks}
 use Rattle.vf_meaning.proofs.Parts.{nothing_is_neutral}
 use Rattle.vf_safety.specs.Safe.{Duty, Duties, Within, Done, DoneAt, DutiesChange, duties_same, Promised, event_of, IsShared, IsPlain, IsJoinable, HasBegun, Exchange, no_exchange, from_mutex, to_mutex, to_thread, to_joinable, from_thread, Concerns, Starts, IsTaken, Offers, IsPromised, Went, Secure, Safe}
 use Rattle.vf_safety.proofs.Duties.{IsIn}
 use Rattle.vf_safety.proofs.Left.{plain_left}
-use Rattle.vf_safety.proofs.Owners.{OfThread, OfMutex, with_part, part_other, Opened, opened}
+use Rattle.vf_safety.proofs.Owners.{OfThread, OfMutex, Leaked, with_part, part_other, Opened, opened}
 use Rattle.vf_safety.proofs.Exchanges.{thread_other, mutex_thread, thread_mutex, thread_leaked, mutex_leaked, mutex_other, deal_none, deal_to, deal_from, Joins, HasExchanged, Passed, concerned, starting, joining, is_end, mutex_concerned, StartedBy, first_duty, started_by, handle_shared, held_by, free_by, changed_by, handle_kept, Makes, handle_made, makes_starts, makes_one, made_joinable, begun_watched, joined_ended, joined_handle, joined_nothing}
+use Rattle.vf_safety.proofs.Listed.{out_of}
 use Rattle.vf_safety.proofs.Worlds.{none_some, some_none, some_same, cons_nil, suc_zero, put_own, put_other, put_if_own, put_if_other, put_if_none, no_first, in_list, past_list, not_ended, put, put_if, alone, ended_is, World, at_same, fewer_steps, safe_fewer, left_post}
 
 module _ (e : Environment) (p : ProgramTree) (duty : Duty) where
@@ -31,12 +32,13 @@ module _ (e : Environment) (p : ProgramTree) (duty : Duty) where
     pub promised : Promised e call [] duties own
     pub rest : (promised.duty).rest ≡ nothing
 
-  -- An event led to a world: the parts of the threads that did not do it and are not joined in it, and of the mutexes whose blocks are as before, are as before; a call through a pointer is a new duty of the thread, a return from a call with a duty does it, and a thread that is started has its first duty
+  -- An event led to a world: the parts of the threads that did not do it and are not joined in it, and of the mutexes whose blocks are as before, are as before; what was leaked grows only where a leak stands; a call through a pointer is a new duty of the thread, a return from a call with a duty does it, and a thread that is started has its first duty
   pub record Next (m : ℕ) (s : State) (w : World e p duty (suc m) s) (event : Event) : Type 0 where
     pub world : World e p duty m (after p s event)
     pub threads : (u : ℕ) → u ≢ event.thread → u < length s.threads → ((b : ℕ) → IsHandleOf s b u → block_at (after p s event).memory b ≡ block_at s.memory b) → world.parts (OfThread u) ≡ w.parts (OfThread u)
     pub mutexes : (b : ℕ) → block_at (after p s event).memory b ≡ block_at s.memory b → world.parts (OfMutex b) ≡ w.parts (OfMutex b)
     pub changes : (u : ℕ) → u < length s.threads → DutiesChange (depth s u) (depth (after p s event) u) (w.duties u) (world.duties u)
+    pub leaks : Leaks e p s event.thread (out_of w.parts) (out_of world.parts)
     pub called : (call : Promise) → CallsPointer e p s event call → Promised e call (w.duties event.thread) (world.duties event.thread) (world.parts (OfThread event.thread))
     pub leaves : (result : Option Value) → Returns p s event.thread result → (n : ℕ) → depth s event.thread ≡ suc n → DoneAt e n (w.duties event.thread) result (world.parts (OfThread event.thread))
     pub starts : (call : Promise) → StartsThread p s event call → IsBegun call (world.duties call.thread) (world.parts (OfThread call.thread))
@@ -52,6 +54,7 @@ module _ (e : Environment) (p : ProgramTree) (duty : Duty) where
     threads = λ u other known kept. refl;
     mutexes = λ b as_before. refl;
     changes = λ u known. duties_same (w.duties u);
+    leaks = record { more = nothing; sums = nothing_is_neutral (w.parts Leaked); unleaked = λ no_leak. refl };
     called = λ call h. absurd (uncalled call h);
     leaves = λ result r n one. absurd (none result r);
     starts = λ call h. absurd (no_more (length s.threads) (sym (ap (λ (z : State). length z.threads) same) ∙ h.started));
@@ -86,7 +89,7 @@ module _ (e : Environment) (p : ProgramTree) (duty : Duty) where
 
   -- ---- what stands after an event of a thread
   module _ (m : ℕ) (s : State) (w : World e p duty (suc m) s) (t : ℕ) (frame : Frame) (callers : Thread) (here : slice_get s.threads t ≡ Some (frame ∷ callers)) (going : s.end ≡ None) (new : State) (x : Exchange) (offered : Offers x s w.all) (rest : Part)
-      (went : Went e p t (λ u ds. Safe e p u ds m) x (w.duties t) s new rest w.all) (passed : Passed e t x s w.parts went.own went.all) where
+      (went : Went e p t (λ u ds. Safe e p u ds m) x (w.duties t) s new rest w.all) (passed : Passed e t x s w.parts went.own went.leaked went.all) where
     abbrev duties_after : ℕ → Duties
     duties_after = put (put_if w.duties (length s.threads) alone (first_duty x)) t went.owing
 
@@ -420,7 +423,7 @@ module _ (e : Environment) (p : ProgramTree) (duty : Duty) where
   -- ---- an event of a thread
   passed_next : (m : ℕ) (s : State) (w : World e p duty (suc m) s) (t grant : ℕ) (frame : Frame) (callers : Thread) → s.end ≡ None → slice_get s.threads t ≡ Some (frame ∷ callers) → (x : Exchange) → Offers x s w.all
       → ((call : Promise) → StartsThread p s (event_of t grant) call → IsPromised e p t x call) → (rest : Part)
-      → (went : Went e p t (λ u ds. Safe e p u ds m) x (w.duties t) s (after p s (event_of t grant)) rest w.all) → Passed e t x s w.parts went.own went.all → Next m s w (event_of t grant)
+      → (went : Went e p t (λ u ds. Safe e p u ds m) x (w.duties t) s (after p s (event_of t grant)) rest w.all) → Passed e t x s w.parts went.own went.leaked went.all → Next m s w (event_of t grant)
   passed_next m s w t grant frame callers going is x offered started rest went passed =
       let new = after p s (event_of t grant) in
       let own_is = own_duties m s w t frame callers is going new x offered rest went passed in
@@ -428,6 +431,7 @@ module _ (e : Environment) (p : ProgramTree) (duty : Duty) where
         world = world_after m s w t frame callers is going new x offered rest went passed;
         threads = threads_as_before m s w t frame callers is going new x offered rest went passed;
         mutexes = mutexes_as_before m s w t frame callers is going new x offered rest went passed;
+        leaks = record { more = went.leaked; sums = passed.grows; unleaked = went.unleaked };
         changes = changes_after m s w t frame callers is going new x offered rest went passed;
         called = λ call h. subst (λ z. Promised e call (w.duties t) z (passed.parts (OfThread t))) (sym own_is) (subst (Promised e call (w.duties t) went.owing) (sym passed.own_is) (went.called grant call h));
         leaves = λ result r n one. subst (DoneAt e n (w.duties t) result) (sym passed.own_is) (went.leaves result r n one);
@@ -446,6 +450,7 @@ module _ (e : Environment) (p : ProgramTree) (duty : Duty) where
         parts = d.parts;
         shared = d.shared;
         own_is = d.own_is;
+        grows = d.grows;
         threads = λ u other old apart1. d.same (OfThread u) (thread_other other) thread_leaked thread_leaked;
         mutexes = λ b apart1. d.same (OfMutex b) mutex_thread mutex_leaked mutex_leaked;
         exchanged = tt;
@@ -457,6 +462,7 @@ module _ (e : Environment) (p : ProgramTree) (duty : Duty) where
         parts = d.parts;
         shared = d.shared;
         own_is = d.own_is;
+        grows = d.grows;
         threads = λ u other old apart1. d.same (OfThread u) (thread_other other) thread_leaked thread_mutex;
         mutexes = λ c apart1. d.same (OfMutex c) mutex_thread mutex_leaked (mutex_other apart1);
         exchanged = subst (SatisfiesInvariant e q) (sym d.there) k.handed;
@@ -470,6 +476,7 @@ module _ (e : Environment) (p : ProgramTree) (duty : Duty) where
         parts = d.parts;
         shared = d.shared;
         own_is = d.own_is;
+        grows = d.grows;
         threads = λ u other old apart1. d.same (OfThread u) (thread_other other) thread_leaked thread_mutex;
         mutexes = λ c apart1. d.same (OfMutex c) mutex_thread mutex_leaked (mutex_other apart1);
         exchanged = d.there;
@@ -482,6 +489,7 @@ module _ (e : Environment) (p : ProgramTree) (duty : Duty) where
         parts = d.parts;
         shared = d.shared;
         own_is = d.own_is;
+        grows = d.grows;
         threads = λ u other old apart1. d.same (OfThread u) (thread_other other) thread_leaked (thread_other old);
         mutexes = λ c apart1. d.same (OfMutex c) mutex_thread mutex_leaked mutex_thread;
         exchanged = d.there ∙ k.handed;
@@ -494,6 +502,7 @@ module _ (e : Environment) (p : ProgramTree) (duty : Duty) where
         parts = d.parts;
         shared = d.shared;
         own_is = d.own_is;
+        grows = d.grows;
         threads = λ u other old apart1. d.same (OfThread u) (thread_other other) thread_leaked (thread_other old);
         mutexes = λ c apart1. d.same (OfMutex c) mutex_thread mutex_leaked mutex_thread;
         exchanged = d.there ∙ k.handed;
@@ -508,6 +517,7 @@ module _ (e : Environment) (p : ProgramTree) (duty : Duty) where
         parts = d.parts;
         shared = d.shared;
         own_is = d.own_is;
+        grows = d.grows;
         threads = λ u other old apart1. d.same (OfThread u) (thread_other other) thread_leaked (thread_other apart1);
         mutexes = λ c apart1. d.same (OfMutex c) mutex_thread mutex_leaked mutex_thread;
         exchanged = d.there;

@@ -143,6 +143,7 @@ module _ (e : Environment) (p : ProgramTree) (duty : Duty) where
     own = w.own;
     given = w.given;
     leaked = w.leaked;
+    unleaked = w.unleaked;
     lost = w.lost;
     handed = w.handed;
     parted = w.parted;

@@ -1,5 +1,5 @@
 -- A program with a loop and a call through a pointer, with the contracts of its functions and of the function type.
-use Rattle.std.specs.Prelude.{pos, true, cond, ◌&&◌, nat_eq, List, [], ◌∷◌, Some, None, codes}
+use Rattle.std.specs.Prelude.{pos, true, false, cond, ◌&&◌, nat_eq, List, [], ◌∷◌, Some, None, codes}
 use Rattle.vf_base.specs.declared.int_type.IntType.TheVariants as types
 use Rattle.vf_tree.specs.Core.{Identity, Integer, PointerToFunction, Add, Less, Equal, LessEqual, Signature, StepTree, Set, If, CallPointer, Return, FunctionTree, ProgramTree}
 use Rattle.vf_tree.specs.Core as core
@@ -64,6 +64,7 @@ counting_environment = record {
   functions = λ g. Some seven_contract;
   types = λ t. cond (same_identity t constant_name) (Some seven_contract) None;
   called = λ g n. cond (nat_eq n 4) (Some constant_name) None;
+  leaks = λ g n. false;
 }
 
 -- the example is accepted

@@ -1,5 +1,5 @@
 -- A program with a loop, a heap, a recursive predicate and a mutex that two threads share, all in one, with its contracts and predicates: the one with a shared mutex, whose main builds a list once the thread is joined.
-use Rattle.std.specs.Prelude.{pos, cond, List, [], ◌∷◌, Option, Some, codes}
+use Rattle.std.specs.Prelude.{pos, cond, ◌&&◌, nat_eq, List, [], ◌∷◌, Option, Some, codes}
 use Rattle.vf_base.specs.declared.int_type.IntType.TheVariants as types
 use Rattle.vf_tree.specs.Core.{Identity, Field, Integer, PointerToStruct, Read, Add, Less, Equal, StepTree, Set, Store, Allocate, Free, If, Call, Return, FunctionTree, ProgramTree}
 use Rattle.vf_tree.specs.Core as core
@@ -91,11 +91,12 @@ abbrev pub everything_bodies : BodyName → Option BodyTree
 everything_bodies (Plain q) = cond (same_identity q nodes_name) (Some nodes_body) (sharing_bodies (Plain q))
 everything_bodies (Instance q g) = sharing_bodies (Instance q g)
 
--- all else is declared as in the program with a shared mutex
+-- what the list has is leaked before the last step of main, and all else is declared as in the program with a shared mutex
 abbrev pub everything_environment : Environment
 everything_environment = record sharing_environment {
   predicates = λ q. cond (same_identity q nodes_name) (Some (record { first = []; others = Pointers ∷ [] })) (sharing_environment.predicates q);
   bodies = everything_bodies;
+  leaks = λ g n. same_identity g main_name && nat_eq n 21;
 }
 
 -- the example is accepted

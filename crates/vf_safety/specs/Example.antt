@@ -66,6 +66,7 @@ box_environment = record {
   functions = λ g. cond (same_identity g main_name) (Some box_contract) None;
   types = λ t. None;
   called = λ g n. None;
+  leaks = λ g n. false;
 }
 
 -- the example is accepted

@@ -7,3 +7,4 @@ pub mod Sharing
 pub mod Everything
 pub mod Refused
 pub mod ArrayLaws
+pub mod LeakLaws

@@ -56,6 +56,7 @@ pair_environment = record {
   functions = λ g. cond (same_identity g pair_name) (Some pair_contract) None;
   types = λ t. None;
   called = λ g n. None;
+  leaks = λ g n. false;
 }
 
 -- the example is accepted

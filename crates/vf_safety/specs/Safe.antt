@@ -22,7 +22,7 @@ use Rattle.vf_meaning.specs.Parts.{Location, MutexAt, HandleAt, Content, MutexOf
 use Rattle.vf_meaning.specs.Fits.{Fits}
 use Rattle.vf_meaning.specs.ShareOuts.{Ended, SatisfiesInvariant, SatisfiesPost, location_in, OwnsFor}
 use Rattle.vf_meaning.specs.Satisfaction.{Satisfies}
-use Rattle.vf_meaning.specs.Kept.{Returns, Promise, CallsPointer, StartsThread, IsFor, Ensures, depth}
+use Rattle.vf_meaning.specs.Kept.{Returns, Promise, CallsPointer, StartsThread, IsFor, Ensures, LeaksNext, depth}
 use Rattle.vf_rules.specs.Types.{IsOfType, IsTypedPart}
 use Rattle.vf_rules.specs.Threads.{run, run_joinable}
 
@@ -188,7 +188,7 @@ HasBegun S _ s new = Unit {0}
 
 module _ (e : Environment) (p : ProgramTree) where
   module _ (t : ℕ) where
-    -- An event of the thread led to a state: the thread has other frames, duties and another part, the others have what they had but for what was given and what was leaked, all of it fits, no other thread and no mutex and handle was touched but for the exchange, what is left is safe, a call through a pointer is a new duty, and a return from a call with a duty does it, also the one that ends the thread
+    -- An event of the thread led to a state: the thread has other frames, duties and another part, the others have what they had but for what was given and what was leaked, which is nothing where no leak stands before the thread's step, all of it fits, no other thread and no mutex and handle was touched but for the exchange, what is left is safe, a call through a pointer is a new duty, and a return from a call with a duty does it, also the one that ends the thread
     pub record Went (S : ℕ → Duties → Thread → Part → Type 0) (exchange : Exchange) (duties : Duties) (s new : State) (rest before : Part) : Type 0 where
       pub frames : Thread
       pub owing : Duties
@@ -199,6 +199,7 @@ module _ (e : Environment) (p : ProgramTree) where
       pub others : Part
       pub all : Part
       pub handed : IsGiven e exchange given
+      pub unleaked : (LeaksNext e p s t → ⊥) → leaked ≡ nothing
       pub parted : IsSum given leaked lost
       pub given_up : IsSum rest lost others
       pub sums : IsSum own others all

@@ -1,13 +1,13 @@
 -- A program in which two threads write a struct's field under one mutex, with the contracts of its functions, its predicates and what its families are at the function of the second thread.
-use Rattle.std.specs.Prelude.{ℕ, pos, true, cond, ◌&&◌, List, [], ◌∷◌, Option, Some, None, codes}
+use Rattle.std.specs.Prelude.{ℕ, pos, false, cond, ◌&&◌, List, [], ◌∷◌, Option, Some, None, codes}
 use Rattle.vf_base.specs.declared.int_type.IntType.TheVariants as types
 use Rattle.vf_tree.specs.Core.{Identity, Field, Integer, PointerToVoid, PointerToStruct, Read, Equal, Signature, StepTree, Load, Store, Allocate, Free, Call, If, Return, FunctionTree, ProgramTree}
 use Rattle.vf_tree.specs.Core as core
 use Rattle.vf_model.specs.Values.{Odd, same_identity}
 use Rattle.vf_model.specs.PreludeFunctions.{Abort, ThreadStartJoinable, ThreadJoin, CreateMutex, MutexAcquire, MutexRelease, MutexDispose, identity_of, pointer_to_mutex, pointer_to_thread, run_signature}
-use Rattle.vf_meaning.specs.Ghost.{Pointers, Anything, Numbered, GhostExpression, Function, PredicateValue, and_expression, no_expressions, Truth}
-use Rattle.vf_meaning.specs.Assertions.{ShareTree, Times, Is, Names, Wild, Named, Family, Pure, Both, Cell, Chunk, BodyName, Plain, Instance, BodyTree, ContractTree, Environment}
-use Rattle.vf_rules.specs.Mutexes.{full, name, invariants, mutex_name, create_mutex_ghost_arg_name}
+use Rattle.vf_meaning.specs.Ghost.{Pointers, Anything, Numbered, GhostExpression, Function, PredicateValue, and_expression, no_expressions}
+use Rattle.vf_meaning.specs.Assertions.{ShareTree, Times, Is, Names, Wild, Named, Family, Both, Cell, Chunk, BodyName, Plain, Instance, BodyTree, ContractTree, Environment}
+use Rattle.vf_rules.specs.Mutexes.{full, name, mutex_name, create_mutex_ghost_arg_name, ghost_arg_body}
 use Rattle.vf_rules.specs.Threads.{thread_run_pre, thread_run_post, thread_run_joinable, run_joinable}
 use Rattle.vf_safety.specs.Laws.{IsAcceptedProgram}
 use Rattle.vf_safety.specs.Example.{somewhere, main_name, box_contract}
@@ -96,10 +96,6 @@ guarded k = PredicateValue guarded_name (and_expression (name k) no_expressions)
 abbrev pub guarded_body : BodyTree
 guarded_body = record { sorts = Pointers ∷ []; parameters = 1; assertion = Cell full (name 0) count_field Wild }
 
--- `predicate create_mutex_ghost_arg(predicate() p) = true;`
-abbrev pub ghost_arg_body : BodyTree
-ghost_arg_body = record { sorts = invariants ∷ []; parameters = 1; assertion = Pure (Truth true) }
-
 -- `[1/2]c->mutex |-> ?m &*& [1/2]mutex(m, guarded(c))`, which the second thread begins with and leaves
 abbrev pub shared_body : BodyTree
 shared_body = record {
@@ -134,6 +130,7 @@ sharing_environment = record {
   functions = λ g. cond (same_identity g tick_name) (Some tick_contract) (Some box_contract);
   types = λ t. cond (same_identity t thread_run_joinable) (Some run_joinable) None;
   called = λ g n. None;
+  leaks = λ g n. false;
 }
 
 -- the example is accepted

@@ -6,6 +6,7 @@
 
 mod array_laws;
 mod laws;
+mod leak_laws;
 
 pub use array_laws::{
     lists_are_in_order, no_cells_are_a_row, raw_rows_are_joined, raw_rows_are_split,
@@ -16,3 +17,4 @@ pub use laws::{
     box_is_accepted, counting_is_accepted, everything_is_accepted, pair_is_accepted,
     sharing_is_accepted, unsafe_are_refused,
 };
+pub use leak_laws::{examples_leak_nothing, no_block_is_left, nothing_is_leaked, nothing_is_lost};

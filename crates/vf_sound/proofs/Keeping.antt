@@ -29,6 +29,7 @@ use Rattle.vf_meaning.specs.Valuations.{Valuation, no_value}
 use Rattle.vf_meaning.specs.Assertions.{Environment}
 use Rattle.vf_meaning.specs.Environments.{Extends}
 use Rattle.vf_meaning.specs.Parts.{nothing}
+use Rattle.vf_meaning.proofs.Parts.{nothing_is_neutral}
 use Rattle.vf_meaning.specs.Satisfaction.{Satisfies}
 use Rattle.vf_meaning.specs.Kept.{before, IsAt, IsReturned, Returns, with_result, IsSafe, Kept}
 use Rattle.vf_sound.specs.Environment.{assertion_of, contract_of, main_contract, environment_of}
@@ -189,6 +190,7 @@ module _ (core : Core) (f : Function) (found : slice_get core.plain.functions co
     required = had_satisfies e core.contract.precondition (λ x. no_value) main.had;
     unleaked = refl;
     changes = λ k event is. record { threads = λ u other known same. refl; mutexes = λ b same. refl };
+    leaks = λ k event is. record { more = nothing; sums = nothing_is_neutral nothing; unleaked = λ none. refl };
     calls = λ k event call is h. absurd (calls_nothing core.plain _ event.thread h.f h.frame h.callers _ h.at);
     starts = λ k event call is h. absurd (calls_nothing core.plain _ event.thread h.f h.frame h.callers _ h.at);
     ensured = λ j event result is first returns last.

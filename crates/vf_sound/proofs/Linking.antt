@@ -16,6 +16,7 @@ extends_itself e = record {
   functions = λ g k h. h;
   types = λ t k h. h;
   called = λ g n t h. h;
+  leaks = λ g n h. h;
 }
 
 only_one : (e u : Environment) → Contains (e ∷ []) u → e ≡ u
@@ -37,4 +38,5 @@ one_unit_links core = record {
   functions = λ g k h. the_unit (environment_of core) (λ u. u.functions g ≡ Some k) h;
   types = λ t k h. the_unit (environment_of core) (λ u. u.types t ≡ Some k) h;
   called = λ g n t h. the_unit (environment_of core) (λ u. u.called g n ≡ Some t) h;
+  leaks = λ g n h. the_unit (environment_of core) (λ u. IsTrue (u.leaks g n)) h;
 }

@@ -42,4 +42,5 @@ environment_of core = record {
   functions = main_contract (contract_of core.contract) (slice_get core.plain.functions core.plain.main);
   types = λ t. None;
   called = λ g n. None;
+  leaks = λ g n. false;
 }

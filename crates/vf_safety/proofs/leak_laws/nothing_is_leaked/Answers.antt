@@ -1,0 +1,5 @@
+use Rattle.vf_safety.proofs.LeakLaws.{nothing_is_leaked}
+use Rattle.vf_safety.proofs.leak_laws.nothing_is_leaked.Goals as goal
+
+pub returns : goal.returns
+returns c = nothing_is_leaked
