@@ -8,3 +8,4 @@ pub mod Everything
 pub mod Refused
 pub mod ArrayLaws
 pub mod LeakLaws
+pub mod Leaving

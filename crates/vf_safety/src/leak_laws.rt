@@ -1,5 +1,6 @@
 //! Laws of what is leaked, and of what is left. Each function does nothing; its contract is the law.
 
+ghost use Rattle.vf_safety.specs.Leaving.{LeavingIsAccepted};
 ghost use Rattle.vf_safety.specs.LeakLaws.{ExamplesLeakNothing, NoBlockIsLeft, NothingIsLeaked, NothingIsLost};
 
 /// In an accepted program in which no leak stands, in no body and no lemma that one calls, nothing is ever
@@ -23,4 +24,9 @@ pub fn no_block_is_left()
 /// In the examples with a struct, with a loop, with two threads and with an array nothing is leaked.
 pub fn examples_leak_nothing()
     ensures { ExamplesLeakNothing }
+{}
+
+/// A program that leaks the struct that it allocates is accepted where a leak stands, and is not where none does.
+pub fn leaving_is_accepted()
+    ensures { LeavingIsAccepted }
 {}

@@ -17,4 +17,7 @@ pub use laws::{
     box_is_accepted, counting_is_accepted, everything_is_accepted, pair_is_accepted,
     sharing_is_accepted, unsafe_are_refused,
 };
-pub use leak_laws::{examples_leak_nothing, no_block_is_left, nothing_is_leaked, nothing_is_lost};
+pub use leak_laws::{
+    examples_leak_nothing, leaving_is_accepted, no_block_is_left, nothing_is_leaked,
+    nothing_is_lost,
+};
