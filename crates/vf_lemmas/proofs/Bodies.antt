@@ -29,7 +29,7 @@ use Rattle.vf_rules.proofs.Opening.{opening_keeps, closing_keeps, still_mean, co
 use Rattle.vf_rules.proofs.Loops.{store_sorted}
 use Rattle.vf_rules.specs.Lemmas.{OnArgument, LemmaTree, Gives}
 use Rattle.vf_lemmas.specs.Depths.{rest_of, Aside}
-use Rattle.vf_lemmas.specs.Proves.{MayCall, earlier, whole_cell_left, smaller_argument, Proves, may_end, may_drop, may_change, may_open, may_close, may_split, may_know, may_leak, may_call, may_put_back, may_open_aside, may_call_inside}
+use Rattle.vf_lemmas.specs.Proves.{MayCall, earlier, whole_cell_left, smaller_argument, Proves, may_end, may_drop, may_change, may_open, may_close, may_see, may_split, may_know, may_leak, may_call, may_put_back, may_open_aside, may_call_inside}
 use Rattle.vf_lemmas.proofs.Ends.{end_gives}
 use Rattle.vf_lemmas.proofs.Masses.{HasMass, mass_left, mass_falls}
 use Rattle.vf_lemmas.proofs.Cells.{whole_cell}
@@ -153,6 +153,8 @@ module _ (e : Environment) (p : ProgramTree) (lemmas : List LemmaTree) (own : Le
   body_gives {asides} {st} (may_close outs closes go) here w n m sized usable v names part q around stands =
       let o = closing_keeps e p st outs closes [] names v part stands in
       body_gives (go o.store o.state o.among) here w n m sized usable o.under names part q around o.stands
+  body_gives {asides} {st} (may_see fact shown go) here w n m sized usable v names part q around stands =
+      body_gives go here w n m sized usable v names part q around (assuming_stands e v st [] names part fact (shown.by v [] names part stands) stands)
   body_gives {asides} {st} (may_split t yes_go no_go) here w n m sized usable v names part q around stands =
       elim (cases_Bool (is_true (value_in e v t))) [
         | inl yes1 ↦ body_gives yes_go here w n m sized usable v names part q around (assuming_stands e v st [] names part (Holds t) yes1 stands)

@@ -3,8 +3,11 @@ use Rattle.std.proofs.Common.{ℕ, zero, suc, ◌<◌, arith}
 use Rattle.vf_model.specs.Values.{Values}
 use Rattle.vf_model.specs.Values as values
 use Rattle.vf_meaning.specs.Valuations.{count, size, sizes, value_at}
+use Rattle.vf_rules.specs.Accept.{all_of_it}
+use Rattle.vf_rules.proofs.GhostLaws.{asserted}
 use Rattle.vf_rules.proofs.LemmaCalls.{lemma_called}
-use Rattle.vf_lemmas.specs.Calls.{CallingKeeps, ComponentsAreSmaller}
+use Rattle.vf_lemmas.specs.Calls.{CallingKeeps, ComponentsAreSmaller, AssertingIsProved}
+use Rattle.vf_lemmas.specs.Proves.{Proves, may_drop, may_see, may_split}
 
 pub calling_keeps : CallingKeeps
 calling_keeps e prog lemma st outs lemma_holds calls locals names v q stands typed =
@@ -22,3 +25,8 @@ in_sizes (values.more w ws) (suc k) l = let h = in_sizes ws k (omega (arith, l))
 
 pub components_are_smaller : ComponentsAreSmaller
 components_are_smaller c ws k l = in_sizes ws k l
+
+pub asserting_is_proved : AssertingIsProved
+asserting_is_proved e p lemmas own place asides st sorts a s outs plain consume go =
+    asserted e p sorts all_of_it (λ z. Proves e p lemmas own place asides z) (λ z fact shown h. may_see fact shown h) (λ z t left right. may_split t left right) (λ z never. may_drop never) st.chunks a s st _ plain
+    (λ v locals names part m. (part, m)) consume (λ r su left among. go r su among)

@@ -6,7 +6,7 @@ use Rattle.vf_meaning.specs.Valuations.{Valuation, size}
 use Rattle.vf_meaning.specs.Assertions.{Names, Assertion, ContractTree, Environment}
 use Rattle.vf_rules.specs.Terms.{Term}
 use Rattle.vf_rules.specs.Terms as terms
-use Rattle.vf_rules.specs.States.{Fact, Holds, CellOf, SymbolicChunk, SymbolicState, value_in, Meets, Entails, Infeasible, assuming}
+use Rattle.vf_rules.specs.States.{Fact, Holds, CellOf, SymbolicChunk, SymbolicState, value_in, Meets, Entails, Shows, Infeasible, assuming}
 use Rattle.vf_rules.specs.Produce.{ProducePatterns, Produce}
 use Rattle.vf_rules.specs.Take.{same, Removes, Changes}
 use Rattle.vf_rules.specs.Consume.{Consume}
@@ -44,6 +44,7 @@ pub data Proves (e : Environment) (p : ProgramTree) (lemmas : List LemmaTree) (o
   may_change : {asides : List Aside} {st new : SymbolicState} → Changes e st new → Proves e p lemmas own place asides new → Proves e p lemmas own place asides st
   may_open : {asides : List Aside} {st : SymbolicState} (outs : List Outcome) → Opens e p st outs → ((s : terms.Store) (su : SymbolicState) → IsAmong outs s su → Proves e p lemmas own place asides su) → Proves e p lemmas own place asides st
   may_close : {asides : List Aside} {st : SymbolicState} (outs : List Outcome) → Closes e p st outs → ((s : terms.Store) (su : SymbolicState) → IsAmong outs s su → Proves e p lemmas own place asides su) → Proves e p lemmas own place asides st
+  may_see : {asides : List Aside} {st : SymbolicState} (fact : Fact) → Shows e st fact → Proves e p lemmas own place asides (assuming st fact) → Proves e p lemmas own place asides st
   may_split : {asides : List Aside} {st : SymbolicState} (t : Term) → Proves e p lemmas own place asides (assuming st (Holds t)) → Proves e p lemmas own place asides (assuming st (Holds (Not t))) → Proves e p lemmas own place asides st
   may_know : {asides : List Aside} {st : SymbolicState} (a : Assertion) (sorts : List Sort) (store : terms.Store) (outs : List Outcome) → HoldsOfNothing e st.path sorts a store → Produce e p sorts all_of_it a store st (IsAmong outs)
       → ((s : terms.Store) (su : SymbolicState) → IsAmong outs s su → Proves e p lemmas own place asides su) → Proves e p lemmas own place asides st

@@ -1,6 +1,6 @@
 //! Laws of accepted lemmas. Each function does nothing; its contract is the law.
 
-ghost use Rattle.vf_lemmas.specs.Calls.{CallingKeeps, ComponentsAreSmaller};
+ghost use Rattle.vf_lemmas.specs.Calls.{AssertingIsProved, CallingKeeps, ComponentsAreSmaller};
 ghost use Rattle.vf_lemmas.specs.Example.{LemmasAreAccepted};
 ghost use Rattle.vf_lemmas.specs.Laws.{AcceptedLemmasHold};
 ghost use Rattle.vf_lemmas.specs.Nesting.{NestingIsAccepted};
@@ -29,4 +29,9 @@ pub fn lemmas_are_accepted()
 /// A lemma is accepted that calls itself with what is inside of its precondition's first part, a predicate without memory.
 pub fn nesting_is_accepted()
     ensures { NestingIsAccepted }
+{}
+
+/// `assert` in a lemma's body: an assertion is consumed, and then the chunks are as before.
+pub fn asserting_is_proved()
+    ensures { AssertingIsProved }
 {}

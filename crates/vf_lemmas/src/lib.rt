@@ -7,6 +7,6 @@
 mod laws;
 
 pub use laws::{
-    accepted_lemmas_hold, calling_keeps, components_are_smaller, lemmas_are_accepted,
-    nesting_is_accepted,
+    accepted_lemmas_hold, asserting_is_proved, calling_keeps, components_are_smaller,
+    lemmas_are_accepted, nesting_is_accepted,
 };

@@ -14,3 +14,4 @@ pub mod Loops
 pub mod Cases
 pub mod Evaluates
 pub mod LemmaCalls
+pub mod GhostLaws

@@ -13,7 +13,7 @@ use Rattle.vf_meaning.specs.Kept.{IsFixed}
 use Rattle.vf_meaning.specs.Assertions.{BlockOf, Assertion, ContractTree, Environment}
 use Rattle.vf_rules.specs.Terms.{Term, stored}
 use Rattle.vf_rules.specs.Terms as terms
-use Rattle.vf_rules.specs.States.{Fact, Holds, OfSort, CellOf, Of, SymbolicChunk, SymbolicState, Entails, Infeasible, assuming, assuming_all, with_chunks}
+use Rattle.vf_rules.specs.States.{Fact, Holds, OfSort, CellOf, Of, SymbolicChunk, SymbolicState, Entails, Shows, Infeasible, assuming, assuming_all, with_chunks}
 use Rattle.vf_rules.specs.Fresh.{symbol, IsNew, IsFresh}
 use Rattle.vf_rules.specs.Types.{type_of_field, facts_of_type}
 use Rattle.vf_rules.specs.Produce.{Produce}
@@ -112,7 +112,7 @@ abbrev pub IsOneOf : Loop → List Loop → Type 0
 IsOneOf loop [] = ⊥
 IsOneOf loop (x ∷ xs) = (x ≡ loop) ⊎ IsOneOf loop xs
 
--- A body is accepted from a step on, in a state, within loops: at the heads of the first ones it may stop, since they were entered and a core step was done since; at those of the second ones, which have the others too, it may once a core step is done. `do_` are the rules of core steps, `may_` those of what annotations do, of a loop's head, or of a state that cannot be. Something is leaked before a step only where the environment says so of it
+-- A body is accepted from a step on, in a state, within loops: at the heads of the first ones it may stop, since they were entered and a core step was done since; at those of the second ones, which have the others too, it may once a core step is done. `do_` are the rules of core steps, `may_` those of what annotations do, of a loop's head, or of a state that cannot be. Something is leaked before a step only where the environment says so of it. Each rule is given the store of its names, so that a ghost local is no more than a term in the stores of later rules, and a block of annotations is the rules of what it has; a ghost `if` is a split, a ghost `switch` is known of its value, and an `assert` is what a state shows
 pub data Accepts (e : Environment) (p : ProgramTree) (f : FunctionTree) (k : ContractTree) : List Loop → List Loop → ℕ → SymbolicState → Type 0 where
   do_set : {now soon : List Loop} {n : ℕ} {st : SymbolicState} (x : ℕ) (a : ExpressionTree) (next : ℕ) (t : Term) → slice_get f.steps n ≡ Some (Set x a next) → Evaluates e st.path st.locals a t
       → Accepts e p f k soon soon next (with_local st x t) → Accepts e p f k now soon n st
@@ -204,6 +204,7 @@ pub data Accepts (e : Environment) (p : ProgramTree) (f : FunctionTree) (k : Con
   may_arrange : {now soon : List Loop} {n : ℕ} {st new : SymbolicState} → Arranges e st new → Accepts e p f k now soon n new → Accepts e p f k now soon n st
   may_open : {now soon : List Loop} {n : ℕ} {st : SymbolicState} (outs : List Outcome) → Opens e p st outs → ((s : terms.Store) (su : SymbolicState) → IsAmong outs s su → Accepts e p f k now soon n su) → Accepts e p f k now soon n st
   may_close : {now soon : List Loop} {n : ℕ} {st : SymbolicState} (outs : List Outcome) → Closes e p st outs → ((s : terms.Store) (su : SymbolicState) → IsAmong outs s su → Accepts e p f k now soon n su) → Accepts e p f k now soon n st
+  may_see : {now soon : List Loop} {n : ℕ} {st : SymbolicState} (fact : Fact) → Shows e st fact → Accepts e p f k now soon n (assuming st fact) → Accepts e p f k now soon n st
   may_split : {now soon : List Loop} {n : ℕ} {st : SymbolicState} (t : Term) → Accepts e p f k now soon n (assuming st (Holds t)) → Accepts e p f k now soon n (assuming st (Holds (Not t))) → Accepts e p f k now soon n st
   may_leak : {now soon : List Loop} {n : ℕ} {st : SymbolicState} (a : Assertion) (sorts : List Sort) (store : terms.Store) (outs : List Outcome) → IsTrue (e.leaks f.identity n) → AreNamesSorted e st.path sorts store → Consume e p sorts all_of_it a store st (IsAmong outs)
       → ((s : terms.Store) (su : SymbolicState) → IsAmong outs s su → Accepts e p f k now soon n su) → Accepts e p f k now soon n st

@@ -18,3 +18,4 @@ pub mod Threads
 pub mod Lemmas
 pub mod Accept
 pub mod Claims
+pub mod GhostLaws

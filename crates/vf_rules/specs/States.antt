@@ -101,6 +101,10 @@ pub record StandsFor (e : Environment) (v : Valuation) (st : SymbolicState) (loc
 pub record Entails (e : Environment) (path : List Fact) (goal : Fact) : Type 0 where
   pub by : (v : Valuation) → Meets e v path → IsMet e v goal
 
+-- a state shows a fact: wherever the state stands for something, its chunks too, the fact is met
+pub record Shows (e : Environment) (st : SymbolicState) (f : Fact) : Type 0 where
+  pub by : (v : Valuation) (locals : List (Option Value)) (names : Valuation) (p : Part) → StandsFor e v st locals names p → IsMet e v f
+
 -- no valuation meets the facts
 pub record Infeasible (e : Environment) (path : List Fact) : Type 0 where
   pub by : (v : Valuation) → Meets e v path → ⊥

@@ -16,7 +16,7 @@ use Rattle.vf_rules.specs.Terms as terms
 use Rattle.vf_rules.specs.States.{Holds, SymbolicState, value_in, assuming}
 use Rattle.vf_rules.specs.Take.{same}
 use Rattle.vf_rules.specs.Laws.{IsAmong}
-use Rattle.vf_rules.specs.Accept.{all_of_it, Accepts, do_set, do_if, do_load, do_store, do_allocate, do_free_null, do_free, do_allocate_ints, do_free_ints_null, do_free_ints, do_offset_zero, do_offset, do_load_at, do_store_at, do_call, do_return, do_leave, may_drop, may_change, may_arrange, may_open, may_close, IsOneOf, may_enter, may_repeat, may_know, may_split, may_leak, may_call_lemma, do_abort, do_put_char, do_print_int, do_call_pointer, do_prelude}
+use Rattle.vf_rules.specs.Accept.{all_of_it, Accepts, do_set, do_if, do_load, do_store, do_allocate, do_free_null, do_free, do_allocate_ints, do_free_ints_null, do_free_ints, do_offset_zero, do_offset, do_load_at, do_store_at, do_call, do_return, do_leave, may_drop, may_change, may_arrange, may_open, may_close, IsOneOf, may_enter, may_repeat, may_know, may_see, may_split, may_leak, may_call_lemma, do_abort, do_put_char, do_print_int, do_call_pointer, do_prelude}
 use Rattle.vf_meaning.specs.Valuations.{count}
 use Rattle.vf_rules.specs.Loops.{Loop, IsLoop}
 use Rattle.vf_rules.proofs.Loops.{entering_keeps, store_sorted}
@@ -128,6 +128,9 @@ module _ (e : Environment) (p : ProgramTree) (t : ℕ) (duty : Duties) (f : Func
       let x = h loop one in
       let o = entering_keeps e p loop st x.0 enters frame.locals r.names r.symbols r.part r.stands (typed_of_left e p r.part r.kept own r.sums r.typed) in
       x.1 (suc m) (omega arith) o.store o.state o.among frame callers own (at_head n loop.node o.state (suc m) frame callers own at (restated e p t duty f k n st o.state (suc m) frame callers own r o.under o.stands))
+  body_safe {now} {soon} {n} {st} (may_see fact shown go) (suc m) h i frame callers own r =
+      let v = r.symbols in
+      body_safe go (suc m) h i frame callers own (restated e p t duty f k n st (assuming st fact) (suc m) frame callers own r v (assuming_stands e v st frame.locals r.names r.part fact (shown.by v frame.locals r.names r.part r.stands) r.stands))
   body_safe {now} {soon} {n} {st} (may_split u yes_go no_go) (suc m) h i frame callers own r =
       let v = r.symbols in
       elim (cases_Bool (is_true (value_in e v u))) [
