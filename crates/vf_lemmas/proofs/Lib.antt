@@ -12,3 +12,4 @@ pub mod Reopened
 pub mod Walked
 pub mod Examples
 pub mod Nested
+pub mod Openings

@@ -1,5 +1,5 @@
 -- The lemma by the depth of its precondition's first part is accepted.
-use Rattle.std.proofs.Common.{◌≡◌, ℕ, zero, suc, ◌<◌, ℤ, pos, Bool, true, false, not, List, [], ◌∷◌, Some, None, refl, sym, ap, subst, ◌∙◌, ◌⊎◌, inl, inr, arith}
+use Rattle.std.proofs.Common.{◌≡◌, ℕ, zero, suc, ℤ, pos, Bool, true, false, not, List, [], ◌∷◌, Some, None, refl, sym, ap, subst, ◌∙◌, ◌⊎◌, inl, inr, arith}
 use Rattle.std.proofs.lemmas.Int.{ints}
 use Rattle.std.specs.Prelude.{IsTrue, int_le, Contains}
 use Rattle.std.specs.Bool.{MatchBool}
@@ -8,13 +8,13 @@ use Rattle.vf_model.specs.Values.{Dyadic, Value, Values}
 use Rattle.vf_model.specs.Values as values
 use Rattle.vf_meaning.specs.Fractions.{whole, product}
 use Rattle.vf_meaning.specs.Ghost.{Name, Integers, Numbered, Result, This, CurrentThread, Number, Arithmetic, Compare, Not, Fraction, Share}
-use Rattle.vf_meaning.specs.Valuations.{Valuation, is_same, listed, value_at, count}
+use Rattle.vf_meaning.specs.Valuations.{Valuation, is_same}
 use Rattle.vf_meaning.specs.GhostValues.{computed}
 use Rattle.vf_meaning.specs.Names.{UsesIn}
 use Rattle.vf_meaning.specs.Sorts.{HasSort, AreOfSorts}
 use Rattle.vf_meaning.specs.Assertions.{Named, Plain, Empty}
 use Rattle.vf_meaning.specs.Parts.{Part, nothing}
-use Rattle.vf_meaning.specs.Chunks.{Just, AllMeet}
+use Rattle.vf_meaning.specs.Chunks.{Just}
 use Rattle.vf_meaning.specs.Satisfaction.{SatisfiesBody, MeansAt, SatisfiesAt}
 use Rattle.vf_meaning.proofs.Growth.{names_agree}
 use Rattle.vf_rules.specs.Terms.{Term, Store}
@@ -33,7 +33,9 @@ use Rattle.vf_lemmas.specs.Depths.{Aside, takes_first, Inside, OpensInto, IsFirs
 use Rattle.vf_lemmas.specs.Proves.{Proves, may_end, may_open, may_split, may_put_back, may_open_aside, may_call_inside, IsAcceptedLemma, with_first_aside}
 use Rattle.vf_lemmas.specs.Example.{no_program}
 use Rattle.vf_lemmas.specs.Nesting.{nested, one_less, is_nested, nested_body, nesting, not_negative, NestingIsAccepted}
+use Rattle.vf_lemmas.specs.Openings.{ComesTo}
 use Rattle.vf_lemmas.proofs.Asides.{neutral}
+use Rattle.vf_lemmas.proofs.Openings.{opening_goes_lower}
 
 some_same : {A : Type 0} {x y : A} → Some x ≡ Some y → x ≡ y
 some_same e = cc
@@ -137,11 +139,6 @@ negated false h = refl
 nothing_in : (x : Name) → Contains [] x → ⊥
 nothing_in x h = omega (arith, h.1)
 
-row_one : (u : Value) (vs : Values) → AllMeet (Just u ∷ []) (listed vs) → (value_at vs 0 ≡ u) × (0 < count vs)
-row_one u values.none h = absurd h
-row_one u (values.more x values.none) h = (h.0, omega arith)
-row_one u (values.more x (values.more y vs)) h = absurd h.1
-
 agree_on_rest : (v w : Valuation) → v (Numbered 0) ≡ w (Numbered 0) → (x : Name) → UsesIn (is_nested one_less) x → v x ≡ w x
 agree_on_rest v w is x (inl none) = absurd (nothing_in x none)
 agree_on_rest v w is x (inr (inl never)) = absurd never
@@ -152,48 +149,33 @@ agree_on_rest v w is x (inr (inr (inr never))) = absurd never
 refused : (b : Bool) (A B : Type 0) → b ≡ false → MatchBool b A B → B
 refused b A B h k = subst (λ z. MatchBool z A B) h k
 
--- what is inside a body of a number that is not 0
-inside_body : (w : Valuation) → is_same (w (Numbered 0)) (values.Number (pos 0)) ≡ false → (n : ℕ) (vs : Values) (q : Part) → AllMeet (Just (w (Numbered 0)) ∷ []) (listed vs) → MeansAt nesting n whole (Plain nested) vs q
-    → (m : ℕ) × (m < n) × SatisfiesAt nesting m whole (is_nested one_less) w q
-inside_body w not_zero zero vs q meets h = absurd h
-inside_body w not_zero (suc m) vs q meets h =
-    let one = row_one (w (Numbered 0)) vs meets in
-    let is : h.under (Numbered 0) ≡ w (Numbered 0) = h.begins 0 one.1 ∙ one.0 in
-    let here = refused (is_same (h.under (Numbered 0)) (values.Number (pos 0))) (q ≡ nothing) (SatisfiesAt nesting m whole (is_nested one_less) h.under q) (ap (λ z. is_same z (values.Number (pos 0))) is ∙ not_zero) h.satisfies in
-    (m, omega arith, names_agree nesting m whole (is_nested one_less) h.under w q (agree_on_rest h.under w is) here)
-
-whole_share : (c : Dyadic) → Some whole ≡ Some c → product whole c ≡ whole
-whole_share c h = ap (λ z. product whole z) (sym (some_same h))
-
-inside_of : (w : Valuation) → is_same (w (Numbered 0)) (values.Number (pos 0)) ≡ false → (n : ℕ) (q : Part) → SatisfiesAt nesting n whole (is_nested (name 0)) w q
-    → (m : ℕ) × (m < n) × SatisfiesAt nesting m whole (is_nested one_less) w q
-inside_of w not_zero n q (c, fraction, (vs, meets, means)) = inside_body w not_zero n vs q meets (subst (λ z. MeansAt nesting n z (Plain nested) vs q) (whole_share c fraction.is) means)
-
 integer_sorted : (w : Valuation) → HasSort nesting (w (Numbered 0)) Integers → AreOfSorts nesting w (Integers ∷ [])
 integer_sorted w h zero s is = subst (HasSort nesting (w (Numbered 0))) (some_same is) h
 integer_sorted w h (suc k) s is = none_some is
 
-opened_aside : (v : Valuation) → Meets nesting v above.path → (w : Valuation) → w (Numbered 0) ≡ v (Numbered 0) → (n : ℕ) (q : Part) → SatisfiesAt nesting n whole (is_nested (name 0)) w q
-    → (m : ℕ) × (m < n) × Inside nesting m (Integers ∷ []) [] (is_nested one_less ∷ []) Empty w q
-opened_aside v m w is n q h =
-    let o = inside_of w (ap (λ z. is_same z (values.Number (pos 0))) is ∙ negated (is_same (v (Numbered 0)) (values.Number (pos 0))) (m.1).0) n q h in (
-      o.0,
-      o.1,
-      record {
-        later = w;
-        same = λ x c. refl;
-        of_sorts = integer_sorted w (subst (λ z. HasSort nesting z Integers) (sym is) m.0);
-        deep = q;
-        left = nothing;
-        sums = neutral q;
-        inner_hold = (q, nothing, neutral q, o.2, refl);
-        depth = 0;
-        rest_holds = refl;
-      },
-    )
+-- what is inside a body of a number that is not 0
+body_comes_to : ComesTo nesting above.path names nested_body (name 0 ∷ []) (Integers ∷ []) [] (is_nested one_less ∷ []) Empty
+body_comes_to = record { by = λ v m w means under of_sorts arguments n q h. inside v m w (sym (means (Numbered 0) (symbol 0) refl)) under (arguments 0 (name 0) refl) n q h }
+  where
+    inside : (v : Valuation) → Meets nesting v above.path → (w : Valuation) → w (Numbered 0) ≡ v (Numbered 0) → (under : Valuation) → under (Numbered 0) ≡ w (Numbered 0) → (n : ℕ) (q : Part) → SatisfiesAt nesting n whole nested_body.assertion under q
+        → Inside nesting n (Integers ∷ []) [] (is_nested one_less ∷ []) Empty w q
+    inside v m w is under same_value n q h =
+        let not_zero = negated (is_same (v (Numbered 0)) (values.Number (pos 0))) (m.1).0 in
+        let here = refused (is_same (under (Numbered 0)) (values.Number (pos 0))) (q ≡ nothing) (SatisfiesAt nesting n whole (is_nested one_less) under q) (ap (λ z. is_same z (values.Number (pos 0))) (same_value ∙ is) ∙ not_zero) h in
+        record {
+          later = w;
+          same = λ x c. refl;
+          of_sorts = integer_sorted w (subst (λ z. HasSort nesting z Integers) (sym is) m.0);
+          deep = q;
+          left = nothing;
+          sums = neutral q;
+          inner_hold = (q, nothing, neutral q, names_agree nesting n whole (is_nested one_less) under w q (agree_on_rest under w same_value) here, refl);
+          depth = 0;
+          rest_holds = refl;
+        }
 
 opens_into : OpensInto nesting above.path names (is_nested (name 0)) (Integers ∷ []) [] (is_nested one_less ∷ []) Empty
-opens_into = record { by = λ v m w means n q h. opened_aside v m w (sym (means (Numbered 0) (symbol 0) refl)) n q h }
+opens_into = opening_goes_lower nesting above.path names nested nested_body (name 0 ∷ []) (Integers ∷ []) [] (is_nested one_less ∷ []) Empty refl refl body_comes_to
 
 -- ---- the call
 is_wanted : (v w u : Valuation) → w (Numbered 0) ≡ v (Numbered 0) → value_in nesting v less_term ≡ u (Numbered 0) → (n : ℕ) (q : Part) → SatisfiesAt nesting n whole (is_nested one_less) w q → SatisfiesAt nesting n whole (is_nested (name 0)) u q

@@ -4,3 +4,4 @@ pub mod Laws
 pub mod Calls
 pub mod Example
 pub mod Nesting
+pub mod Openings

@@ -4,6 +4,7 @@ ghost use Rattle.vf_lemmas.specs.Calls.{AssertingIsProved, CallingKeeps, Compone
 ghost use Rattle.vf_lemmas.specs.Example.{LemmasAreAccepted};
 ghost use Rattle.vf_lemmas.specs.Laws.{AcceptedLemmasHold};
 ghost use Rattle.vf_lemmas.specs.Nesting.{NestingIsAccepted};
+ghost use Rattle.vf_lemmas.specs.Openings.{OpeningGoesLower};
 
 /// Each accepted lemma gives, from every part of memory that satisfies its precondition, a part not
 /// greater that satisfies its postcondition; the difference is leaked, and is nothing where it does not leak.
@@ -34,4 +35,9 @@ pub fn nesting_is_accepted()
 /// `assert` in a lemma's body: an assertion is consumed, and then the chunks are as before.
 pub fn asserting_is_proved()
     ensures { AssertingIsProved }
+{}
+
+/// Where the whole of a predicate's chunk is opened, what is in the predicate's body holds less deep.
+pub fn opening_goes_lower()
+    ensures { OpeningGoesLower }
 {}
