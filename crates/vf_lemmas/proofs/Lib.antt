@@ -13,3 +13,4 @@ pub mod Walked
 pub mod Examples
 pub mod Nested
 pub mod Openings
+pub mod Visited

@@ -5,3 +5,4 @@ pub mod Calls
 pub mod Example
 pub mod Nesting
 pub mod Openings
+pub mod Visiting

@@ -5,6 +5,7 @@ ghost use Rattle.vf_lemmas.specs.Example.{LemmasAreAccepted};
 ghost use Rattle.vf_lemmas.specs.Laws.{AcceptedLemmasHold};
 ghost use Rattle.vf_lemmas.specs.Nesting.{NestingIsAccepted};
 ghost use Rattle.vf_lemmas.specs.Openings.{OpeningGoesLower};
+ghost use Rattle.vf_lemmas.specs.Visiting.{VisitingIsAccepted};
 
 /// Each accepted lemma gives, from every part of memory that satisfies its precondition, a part not
 /// greater that satisfies its postcondition; the difference is leaked, and is nothing where it does not leak.
@@ -40,4 +41,9 @@ pub fn asserting_is_proved()
 /// Where the whole of a predicate's chunk is opened, what is in the predicate's body holds less deep.
 pub fn opening_goes_lower()
     ensures { OpeningGoesLower }
+{}
+
+/// A lemma is accepted that goes through a chain of structs by calling itself where a whole cell is left.
+pub fn visiting_is_accepted()
+    ensures { VisitingIsAccepted }
 {}
