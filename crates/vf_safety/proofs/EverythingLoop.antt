@@ -25,10 +25,9 @@ use Rattle.vf_rules.specs.Accept.{all_of_it, call_store, cell_chunk, block_chunk
 use Rattle.vf_safety.specs.Example.{somewhere, box_contract}
 use Rattle.vf_safety.specs.Everything.{node_name, next_field, nodes_name, nodes_body, nodes_of_head, everything_main, everything_program, everything_environment}
 use Rattle.vf_safety.proofs.NewSymbols.{fresh_state}
-use Rattle.vf_safety.proofs.SharingFacts.{some_same, none_some, among_one, first_bound, nothing_bound, name_bound, integer_is_no_void}
+use Rattle.vf_safety.proofs.SharingFacts.{among_one, by_place, by_value, first_bound, inhabited, integer_is_no_void, name_bound, none_some, nothing_bound, same_self, some_same, sorted, whole_fraction}
 use Rattle.vf_safety.proofs.SharedTick.{written_share}
 use Rattle.vf_safety.proofs.SharedEnd.{at, fresh}
-use Rattle.vf_safety.proofs.EverythingFacts.{same_self, by_value, by_place, whole_fraction, inhabited, sorted}
 
 -- a body of main is accepted within loops
 abbrev pub GoesIn : List Loop → List Loop → ℕ → SymbolicState → Type 0
@@ -120,7 +119,7 @@ is_loop : IsLoop everything_environment everything_program loop
 is_loop = record {
   fresh = λ j c is. record { names = fresh c.number; kept = λ u. u; path = λ u. u };
   distinct = λ i j c d a b same. sym (number_at i c a) ∙ same ∙ number_at j d b;
-  inhabited = inhabited (Pointers ∷ []) (tt, tt);
+  inhabited = inhabited everything_environment refl (Pointers ∷ []) (tt, tt);
   produced = (nothing_bound (store_of (symbol 0 ∷ [])), (tt, (name_bound (store_of (symbol 0 ∷ [])) (Numbered 0) (symbol 0) refl, inl (refl, refl))));
 }
 
@@ -143,12 +142,12 @@ comes c m t n h i path pointer count = record {
         (
           nodes_chunk all_of_it h,
           [],
-          takes_all (by_value path written_share all_of_it (λ v. refl)),
+          takes_all (by_value everything_environment path written_share all_of_it (λ v. refl)),
           (
             refl,
             (
               name_bound (store_of (h ∷ [])) (Numbered 0) h refl,
-              same_self path h,
+              same_self everything_environment path h,
               record {
                 now = h ∷ i ∷ [];
                 number = refl;
@@ -189,12 +188,12 @@ behind_path = head_path ++ Holds (Not (Compare Less (symbol 1) (Number (pos 3)))
 returns : GoesIn (loop ∷ []) (loop ∷ []) 21 (at (head_locals None) behind_path [])
 returns =
     do_return (core.Number (pos 7)) (Number (pos 7)) refl refl (number_sorted behind_path 7, (record { by = λ v m. refl }, (record { by = λ v m. refl }, tt))) integer_is_no_void
-    (first_bound (stored (call_store []) Result (Number (pos 7))) Result (Number (pos 7)) refl, same_self behind_path (Number (pos 7)), (refl, keeps (Number (pos 7))))
+    (first_bound (stored (call_store []) Result (Number (pos 7))) Result (Number (pos 7)) refl, same_self everything_environment behind_path (Number (pos 7)), (refl, keeps (Number (pos 7))))
 
 leaks : GoesIn (loop ∷ []) (loop ∷ []) 21 (at (head_locals None) behind_path (nodes_chunk written_share (symbol 0) ∷ []))
 leaks =
     may_leak nodes_of_head (Pointers ∷ []) (store_of (symbol 0 ∷ [])) (record { store = store_of (symbol 0 ∷ []); state = at (head_locals None) behind_path [] } ∷ [])
-    refl (first_sorted behind_path (symbol 0) (by_place behind_path 0 (OfSort (symbol 0) Pointers) refl)) (
+    refl (first_sorted behind_path (symbol 0) (by_place everything_environment behind_path 0 (OfSort (symbol 0) Pointers) refl)) (
       nothing_bound (store_of (symbol 0 ∷ [])),
       (
         at (head_locals None) behind_path (nodes_chunk written_share (symbol 0) ∷ []),
@@ -204,8 +203,8 @@ leaks =
           (
             nodes_chunk written_share (symbol 0),
             [],
-            takes_all (same_self behind_path written_share),
-            (refl, (name_bound (store_of (symbol 0 ∷ [])) (Numbered 0) (symbol 0) refl, same_self behind_path (symbol 0), inl (refl, refl))),
+            takes_all (same_self everything_environment behind_path written_share),
+            (refl, (name_bound (store_of (symbol 0 ∷ [])) (Numbered 0) (symbol 0) refl, same_self everything_environment behind_path (symbol 0), inl (refl, refl))),
           ),
         ),
       ),
@@ -254,8 +253,8 @@ repeats : GoesIn (loop ∷ []) (loop ∷ []) 19 (at (head_locals (Some (symbol 2
 repeats =
     do_set 3 (core.Read 4 somewhere) 20 (symbol 2) refl refl
     (do_set 5 (core.Arithmetic Add types.Int (core.Read 5 somewhere) (core.Number (pos 1)) somewhere) 14 one_more refl
-    (symbol 1, Number (pos 1), refl, refl, by_place longer_path 1 (OfSort (symbol 1) Integers) refl, number_sorted longer_path 1, tt, refl, (low_enough, high_enough))
-    (may_repeat loop (inl refl) refl (comes None None None (Some (symbol 2)) (symbol 2) one_more longer_path (by_place longer_path 5 (OfSort (symbol 2) Pointers) refl) (sum_sorted, (low_enough, (high_enough, tt))))))
+    (symbol 1, Number (pos 1), refl, refl, by_place everything_environment longer_path 1 (OfSort (symbol 1) Integers) refl, number_sorted longer_path 1, tt, refl, (low_enough, high_enough))
+    (may_repeat loop (inl refl) refl (comes None None None (Some (symbol 2)) (symbol 2) one_more longer_path (by_place everything_environment longer_path 5 (OfSort (symbol 2) Pointers) refl) (sum_sorted, (low_enough, (high_enough, tt))))))
 
 -- the predicate is closed with the new node
 abbrev node_store : Store
@@ -268,15 +267,15 @@ closes_node : Closes everything_environment everything_program (at (head_locals 
     (record { store = nodes_store; state = at (head_locals (Some (symbol 2))) longer_path (nodes_chunk all_of_it (symbol 2) ∷ []) } ∷ [])
 closes_node = record {
   share = all_of_it;
-  fraction = whole_fraction node_path all_of_it (λ v. refl);
+  fraction = whole_fraction everything_environment node_path all_of_it (λ v. refl);
   name = Plain nodes_name;
   openable = refl;
   body = nodes_body;
   there = refl;
   arguments = symbol 2 ∷ [];
   number = refl;
-  of_sorts = sorted node_path (Pointers ∷ Pointers ∷ []) (symbol 2 ∷ []) (by_place node_path 5 (OfSort (symbol 2) Pointers) refl, tt);
-  inhabited = inhabited (Pointers ∷ Pointers ∷ []) (tt, (tt, tt));
+  of_sorts = sorted everything_environment node_path (Pointers ∷ Pointers ∷ []) (symbol 2 ∷ []) (by_place everything_environment node_path 5 (OfSort (symbol 2) Pointers) refl, tt);
+  inhabited = inhabited everything_environment refl (Pointers ∷ Pointers ∷ []) (tt, (tt, tt));
   consumed = (
     first_bound node_store (Numbered 0) (symbol 2) refl,
     inl (record { by = λ v m. not_both (is_same (v (Numbered 2)) values.Null) (last_met v node_path (Holds (Compare Equal (symbol 2) Null)) m) m.1.1.1.1.1.1.1.0 }),
@@ -290,17 +289,17 @@ closes_node = record {
           (
             node_cell (Some (symbol 0)),
             older ∷ node_block ∷ [],
-            takes_later (takes_later (takes_all (by_value longer_path written_share all_of_it (λ v. refl)))),
+            takes_later (takes_later (takes_all (by_value everything_environment longer_path written_share all_of_it (λ v. refl)))),
             (
               refl,
               (
                 symbol 2,
                 Some (symbol 0),
                 refl,
-                same_self longer_path (symbol 2),
+                same_self everything_environment longer_path (symbol 2),
                 (
                   refl,
-                  (by_place longer_path 0 (OfSort (symbol 0) Pointers) refl, tt),
+                  (by_place everything_environment longer_path 0 (OfSort (symbol 0) Pointers) refl, tt),
                   (
                     nothing_bound nodes_store,
                     (
@@ -311,12 +310,12 @@ closes_node = record {
                         (
                           node_block,
                           older ∷ [],
-                          takes_later (takes_all (by_value longer_path written_share all_of_it (λ v. refl))),
+                          takes_later (takes_all (by_value everything_environment longer_path written_share all_of_it (λ v. refl))),
                           (
                             refl,
                             (
                               name_bound nodes_store (Numbered 0) (symbol 2) refl,
-                              same_self longer_path (symbol 2),
+                              same_self everything_environment longer_path (symbol 2),
                               (
                                 nothing_bound nodes_store,
                                 (
@@ -327,8 +326,8 @@ closes_node = record {
                                     (
                                       older,
                                       [],
-                                      takes_all (same_self longer_path written_share),
-                                      (refl, (name_bound nodes_store (Numbered 1) (symbol 0) refl, same_self longer_path (symbol 0), inl (refl, refl))),
+                                      takes_all (same_self everything_environment longer_path written_share),
+                                      (refl, (name_bound nodes_store (Numbered 1) (symbol 0) refl, same_self everything_environment longer_path (symbol 0), inl (refl, refl))),
                                     ),
                                   ),
                                 ),
@@ -354,16 +353,16 @@ closed_node = may_close (record { store = nodes_store; state = at (head_locals (
     (λ s st among. among_one (λ s st. GoesIn (loop ∷ []) (loop ∷ []) 19 st) nodes_store (at (head_locals (Some (symbol 2))) longer_path (nodes_chunk all_of_it (symbol 2) ∷ [])) repeats s st among)
 
 pointer_fits : (type : TypeTree) → type_of_field everything_program node_name 0 ≡ Some type → EntailsAll everything_environment node_path (facts_of_type type (symbol 0)) × (type ≢ Void)
-pointer_fits type is = subst (λ z. EntailsAll everything_environment node_path (facts_of_type z (symbol 0)) × (z ≢ Void)) (some_same is) ((by_place node_path 0 (OfSort (symbol 0) Pointers) refl, tt), pointer_no_void)
+pointer_fits type is = subst (λ z. EntailsAll everything_environment node_path (facts_of_type z (symbol 0)) × (z ≢ Void)) (some_same is) ((by_place everything_environment node_path 0 (OfSort (symbol 0) Pointers) refl, tt), pointer_no_void)
 
 links : GoesIn (loop ∷ []) (loop ∷ []) 18 (at (head_locals (Some (symbol 2))) node_path (older ∷ node_cell None ∷ node_block ∷ []))
 links =
     do_store (core.Read 4 somewhere) (core.Read 3 somewhere) next_field somewhere 19 (symbol 2) (symbol 2) (symbol 0) None (node_cell None) (older ∷ node_block ∷ []) refl refl refl
-    (takes_later (takes_all (same_self node_path all_of_it))) refl refl (same_self node_path (symbol 2)) pointer_fits closed_node
+    (takes_later (takes_all (same_self everything_environment node_path all_of_it))) refl refl (same_self everything_environment node_path (symbol 2)) pointer_fits closed_node
 
 granted_way : GoesIn (loop ∷ []) (loop ∷ []) 16 (at (head_locals (Some (symbol 2))) new_path (older ∷ node_cell None ∷ node_block ∷ []))
 granted_way =
-    do_if Equal (core.Read 4 somewhere) core.Null 17 18 (symbol 2) Null refl refl refl (inr (inr (by_place new_path 5 (OfSort (symbol 2) Pointers) refl))) (inr (inr (null_sorted new_path)))
+    do_if Equal (core.Read 4 somewhere) core.Null 17 18 (symbol 2) Null refl refl refl (inr (inr (by_place everything_environment new_path 5 (OfSort (symbol 2) Pointers) refl))) (inr (inr (null_sorted new_path)))
     (may_drop (record { by = λ v m. not_both (is_same (v (Numbered 2)) values.Null) (last_met v new_path (Holds (Compare Equal (symbol 2) Null)) m) m.1.1.1.1.1.1.0 }))
     links
 
@@ -377,7 +376,7 @@ round : GoesIn (loop ∷ []) (loop ∷ []) 15 (at (head_locals None) round_path 
 round = do_allocate 4 node_name 16 2 refl (fresh_state 2 (at (head_locals None) round_path (older ∷ [])) (fresh 2) refl refl refl) null_way granted_way
 
 at_head : GoesIn [] (loop ∷ []) 14 head
-at_head = do_if {st = head} Less (core.Read 5 somewhere) (core.Number (pos 3)) 15 21 (symbol 1) (Number (pos 3)) refl refl refl (inl (by_place head_path 1 (OfSort (symbol 1) Integers) refl)) (inl (number_sorted head_path 3)) round leaks
+at_head = do_if {st = head} Less (core.Read 5 somewhere) (core.Number (pos 3)) 15 21 (symbol 1) (Number (pos 3)) refl refl refl (inl (by_place everything_environment head_path 1 (OfSort (symbol 1) Integers) refl)) (inl (number_sorted head_path 3)) round leaks
 
 -- ---- the list begins empty
 module _ (c m t : Option Term) (path : List Fact) where
@@ -395,15 +394,15 @@ module _ (c m t : Option Term) (path : List Fact) where
   closes_empty : Closes everything_environment everything_program (at begun path []) (record { store = store_of (Null ∷ []); state = at begun empty_path (nodes_chunk all_of_it Null ∷ []) } ∷ [])
   closes_empty = record {
     share = all_of_it;
-    fraction = whole_fraction path all_of_it (λ v. refl);
+    fraction = whole_fraction everything_environment path all_of_it (λ v. refl);
     name = Plain nodes_name;
     openable = refl;
     body = nodes_body;
     there = refl;
     arguments = Null ∷ [];
     number = refl;
-    of_sorts = sorted path (Pointers ∷ Pointers ∷ []) (Null ∷ []) (null_sorted path, tt);
-    inhabited = inhabited (Pointers ∷ Pointers ∷ []) (tt, (tt, tt));
+    of_sorts = sorted everything_environment path (Pointers ∷ Pointers ∷ []) (Null ∷ []) (null_sorted path, tt);
+    inhabited = inhabited everything_environment refl (Pointers ∷ Pointers ∷ []) (tt, (tt, tt));
     consumed = (
       first_bound (store_of (Null ∷ [])) (Numbered 0) Null refl,
       inr (inl (refl, refl)),

@@ -21,8 +21,7 @@ use Rattle.vf_safety.specs.Example.{somewhere}
 use Rattle.vf_safety.specs.Sharing.{counter_name, count_field, mutex_field, tick_name, guarded_name, tick, guarded_body, shared_body, tick_contract}
 use Rattle.vf_safety.specs.Everything.{everything_program, everything_environment}
 use Rattle.vf_safety.proofs.NewSymbols.{fresh_stored, fresh_call, fresh_arguments, fresh_state, new_symbol}
-use Rattle.vf_safety.proofs.SharingFacts.{some_same, among_one, nothing_bound, name_bound, first_bound, fixed_stored, call_fixed, integer_is_no_void}
-use Rattle.vf_safety.proofs.EverythingFacts.{same_self, by_value, by_place, guarded_sorted, half_sorted, half_quotient, whole_fraction, inhabited, sorted}
+use Rattle.vf_safety.proofs.SharingFacts.{among_one, by_place, by_value, call_fixed, first_bound, fixed_stored, guarded_sorted, half_quotient, half_sorted, inhabited, integer_is_no_void, name_bound, nothing_bound, same_self, some_same, sorted, whole_fraction}
 use Rattle.vf_safety.proofs.SharedTick.{applied_chunk, field_chunk, guarded_by, guarded_chunk, half_at, held_chunk, mutex_chunk, post_chunk, pre_chunk, tick_begun, written_share}
 
 -- the rules of the example's functions
@@ -80,15 +79,15 @@ body_store = stored (store_of (symbol 0 ∷ symbol 1 ∷ [])) (Numbered 2) (symb
 closes_post : Closes everything_environment everything_program (at loaded path2 (cell_half ∷ mutex_back ∷ [])) (record { store = body_store; state = at loaded path2 (post_chunk all_of_it (symbol 0) (symbol 1) ∷ []) } ∷ [])
 closes_post = record {
   share = all_of_it;
-  fraction = whole_fraction path2 all_of_it (λ v. refl);
+  fraction = whole_fraction everything_environment path2 all_of_it (λ v. refl);
   name = Instance thread_run_post tick_name;
   openable = tt;
   body = shared_body;
   there = refl;
   arguments = symbol 0 ∷ symbol 1 ∷ [];
   number = refl;
-  of_sorts = sorted path2 (Pointers ∷ Anything ∷ Pointers ∷ []) (symbol 0 ∷ symbol 1 ∷ []) (by_place path2 0 (OfSort (symbol 0) Pointers) refl, (by_place path2 2 (OfSort (symbol 1) Anything) refl, tt));
-  inhabited = inhabited (Pointers ∷ Anything ∷ Pointers ∷ []) (tt, (tt, (tt, tt)));
+  of_sorts = sorted everything_environment path2 (Pointers ∷ Anything ∷ Pointers ∷ []) (symbol 0 ∷ symbol 1 ∷ []) (by_place everything_environment path2 0 (OfSort (symbol 0) Pointers) refl, (by_place everything_environment path2 2 (OfSort (symbol 1) Anything) refl, tt));
+  inhabited = inhabited everything_environment refl (Pointers ∷ Anything ∷ Pointers ∷ []) (tt, (tt, (tt, tt)));
   consumed = (
     name_bound (store_of (symbol 0 ∷ symbol 1 ∷ [])) (Numbered 0) (symbol 0) refl,
     (
@@ -99,17 +98,17 @@ closes_post = record {
         (
           cell_half,
           mutex_back ∷ [],
-          takes_all (by_value path2 (half_at all_of_it) (half_at written_share) (λ v. refl)),
+          takes_all (by_value everything_environment path2 (half_at all_of_it) (half_at written_share) (λ v. refl)),
           (
             refl,
             (
               symbol 0,
               Some (symbol 2),
               refl,
-              same_self path2 (symbol 0),
+              same_self everything_environment path2 (symbol 0),
               (
                 refl,
-                (by_place path2 3 (OfSort (symbol 2) Pointers) refl, tt),
+                (by_place everything_environment path2 3 (OfSort (symbol 2) Pointers) refl, tt),
                 (
                   nothing_bound body_store,
                   (
@@ -120,8 +119,8 @@ closes_post = record {
                       (
                         mutex_back,
                         [],
-                        takes_all (by_value path2 (half_at all_of_it) (Share all_of_it (Share (Fraction whole) half_mutex)) (λ v. refl)),
-                        (refl, (name_bound body_store (Numbered 2) (symbol 2) refl, same_self path2 (symbol 2), (first_bound body_store (Numbered 0) (symbol 0) refl, same_self path2 q, inl (refl, refl)))),
+                        takes_all (by_value everything_environment path2 (half_at all_of_it) (Share all_of_it (Share (Fraction whole) half_mutex)) (λ v. refl)),
+                        (refl, (name_bound body_store (Numbered 2) (symbol 2) refl, same_self everything_environment path2 (symbol 2), (first_bound body_store (Numbered 0) (symbol 0) refl, same_self everything_environment path2 q, inl (refl, refl)))),
                       ),
                     ),
                   ),
@@ -147,8 +146,8 @@ leaves =
           (
             post_chunk all_of_it (symbol 0) (symbol 1),
             [],
-            takes_all (by_value path2 written_share all_of_it (λ v. refl)),
-            ((refl, same_self path2 (Function tick_name)), (name_bound names (Numbered 0) (symbol 0) refl, same_self path2 (symbol 0), (name_bound names (Numbered 1) (symbol 1) refl, same_self path2 (symbol 1), (refl, λ x t fixed is. is)))),
+            takes_all (by_value everything_environment path2 written_share all_of_it (λ v. refl)),
+            ((refl, same_self everything_environment path2 (Function tick_name)), (name_bound names (Numbered 0) (symbol 0) refl, same_self everything_environment path2 (symbol 0), (name_bound names (Numbered 1) (symbol 1) refl, same_self everything_environment path2 (symbol 1), (refl, λ x t fixed is. is)))),
           ),
         ),
       ),
@@ -172,7 +171,7 @@ fresh_released : IsFreshIn 4 release_store
 fresh_released = fresh_stored 4 (stored (call_store (symbol 2 ∷ [])) (Numbered 1) q) (Numbered 2) half_mutex (fresh_stored 4 (call_store (symbol 2 ∷ [])) (Numbered 1) q (fresh_call 4 (symbol 2 ∷ []) refl) refl) refl
 
 renames : (path : List Fact) (share : Term) → Renames everything_environment path (applied_chunk share q) (guarded_chunk share (symbol 0))
-renames path share = record { predicate = guarded_name; value = q; first = symbol 0 ∷ []; is = same_self path q; applied_head = refl; named_head = refl; one_share = refl; arguments = refl }
+renames path share = record { predicate = guarded_name; value = q; first = symbol 0 ∷ []; is = same_self everything_environment path q; applied_head = refl; named_head = refl; one_share = refl; arguments = refl }
 
 release_fixed : AreFixed release release_store
 release_fixed =
@@ -183,7 +182,7 @@ release_fixed =
 releases_it : Goes 3 (at loaded path2 (cell_half ∷ held ∷ guarded_chunk all_of_it (symbol 0) ∷ []))
 releases_it =
     do_prelude None (identity_of MutexRelease) (core.Read 1 somewhere ∷ []) somewhere 4 MutexRelease release (symbol 2 ∷ []) (record { store = stored release_store Result (symbol 4); state = at loaded path2 (cell_half ∷ mutex_back ∷ []) } ∷ [])
-    refl refl releases refl (inhabited release.sorts (tt, (tt, (tt, tt)))) (λ h. refl) (refl, tt) refl (sorted path2 release.sorts (symbol 2 ∷ []) (by_place path2 3 (OfSort (symbol 2) Pointers) refl, tt)) (
+    refl refl releases refl (inhabited everything_environment refl release.sorts (tt, (tt, (tt, tt)))) (λ h. refl) (refl, tt) refl (sorted everything_environment path2 release.sorts (symbol 2 ∷ []) (by_place everything_environment path2 3 (OfSort (symbol 2) Pointers) refl, tt)) (
       nothing_bound (call_store (symbol 2 ∷ [])),
       (
         at loaded path2 (cell_half ∷ held ∷ guarded_chunk all_of_it (symbol 0) ∷ []),
@@ -193,21 +192,21 @@ releases_it =
           (
             held,
             cell_half ∷ guarded_chunk all_of_it (symbol 0) ∷ [],
-            takes_later (takes_all (same_self path2 written_share)),
+            takes_later (takes_all (same_self everything_environment path2 written_share)),
             (
               refl,
               (
                 name_bound (call_store (symbol 2 ∷ [])) (Numbered 0) (symbol 2) refl,
-                same_self path2 (symbol 2),
+                same_self everything_environment path2 (symbol 2),
                 (
                   refl,
-                  (guarded_sorted path2 (symbol 0) (by_place path2 0 (OfSort (symbol 0) Pointers) refl), tt),
+                  (guarded_sorted everything_environment refl path2 (symbol 0) (by_place everything_environment path2 0 (OfSort (symbol 0) Pointers) refl), tt),
                   (
                     name_bound (stored (call_store (symbol 2 ∷ [])) (Numbered 1) q) CurrentThread (Variable CurrentThread) refl,
-                    same_self path2 (Variable CurrentThread),
+                    same_self everything_environment path2 (Variable CurrentThread),
                     (
                       refl,
-                      (half_sorted path2 half_mutex (λ v. refl), tt),
+                      (half_sorted everything_environment path2 half_mutex (λ v. refl), tt),
                       (
                         name_bound release_store (Numbered 1) q refl,
                         (
@@ -218,9 +217,9 @@ releases_it =
                             (
                               applied_chunk all_of_it q,
                               cell_half ∷ [],
-                              takes_later (takes_all (by_value path2 written_share all_of_it (λ v. refl))),
+                              takes_later (takes_all (by_value everything_environment path2 written_share all_of_it (λ v. refl))),
                               (
-                                same_self path2 q,
+                                same_self everything_environment path2 q,
                                 (
                                   4,
                                   new_symbol 4 all_of_it release_store [] (at loaded path2 (cell_half ∷ [])) (fresh_state 4 (at loaded path2 (cell_half ∷ [])) fresh_four refl refl refl) fresh_released refl refl,
@@ -253,15 +252,15 @@ opened_cell = field_chunk (Share written_share (Fraction whole)) count_field (sy
 closes_guarded : Closes everything_environment everything_program (at loaded path2 (cell_half ∷ held ∷ written_cell ∷ [])) (record { store = store_of (symbol 0 ∷ []); state = at loaded path2 (cell_half ∷ held ∷ guarded_chunk all_of_it (symbol 0) ∷ []) } ∷ [])
 closes_guarded = record {
   share = all_of_it;
-  fraction = whole_fraction path2 all_of_it (λ v. refl);
+  fraction = whole_fraction everything_environment path2 all_of_it (λ v. refl);
   name = Plain guarded_name;
   openable = refl;
   body = guarded_body;
   there = refl;
   arguments = symbol 0 ∷ [];
   number = refl;
-  of_sorts = sorted path2 (Pointers ∷ []) (symbol 0 ∷ []) (by_place path2 0 (OfSort (symbol 0) Pointers) refl, tt);
-  inhabited = inhabited (Pointers ∷ []) (tt, tt);
+  of_sorts = sorted everything_environment path2 (Pointers ∷ []) (symbol 0 ∷ []) (by_place everything_environment path2 0 (OfSort (symbol 0) Pointers) refl, tt);
+  inhabited = inhabited everything_environment refl (Pointers ∷ []) (tt, tt);
   consumed = (
     name_bound (store_of (symbol 0 ∷ [])) (Numbered 0) (symbol 0) refl,
     (
@@ -272,8 +271,8 @@ closes_guarded = record {
         (
           written_cell,
           cell_half ∷ held ∷ [],
-          takes_later (takes_later (takes_all (by_value path2 written_share all_of_it (λ v. refl)))),
-          (refl, (symbol 0, Some (Number (pos 7)), refl, same_self path2 (symbol 0), inl (refl, refl))),
+          takes_later (takes_later (takes_all (by_value everything_environment path2 written_share all_of_it (λ v. refl)))),
+          (refl, (symbol 0, Some (Number (pos 7)), refl, same_self everything_environment path2 (symbol 0), inl (refl, refl))),
         ),
       ),
     ),
@@ -293,14 +292,14 @@ closes_it = may_close (record { store = store_of (symbol 0 ∷ []); state = at l
 writes : Goes 2 (at loaded path2 (cell_half ∷ held ∷ opened_cell ∷ []))
 writes =
     do_store (core.Read 0 somewhere) (core.Number (pos 7)) count_field somewhere 3 (symbol 0) (symbol 0) (Number (pos 7)) None opened_cell (cell_half ∷ held ∷ []) refl refl refl
-    (takes_later (takes_later (takes_all (by_value path2 all_of_it (Share written_share (Fraction whole)) (λ v. refl))))) refl refl (same_self path2 (symbol 0)) (number_fits path2) closes_it
+    (takes_later (takes_later (takes_all (by_value everything_environment path2 all_of_it (Share written_share (Fraction whole)) (λ v. refl))))) refl refl (same_self everything_environment path2 (symbol 0)) (number_fits path2) closes_it
 
 opens_guarded : Opens everything_environment everything_program (at loaded path1 (cell_half ∷ held ∷ guarded_chunk written_share (symbol 0) ∷ [])) (record { store = store_of (symbol 0 ∷ []); state = at loaded path2 (cell_half ∷ held ∷ opened_cell ∷ []) } ∷ [])
 opens_guarded = record {
   chunk = guarded_chunk written_share (symbol 0);
   others = cell_half ∷ held ∷ [];
   share = written_share;
-  taken = takes_later (takes_later (takes_all (same_self path1 written_share)));
+  taken = takes_later (takes_later (takes_all (same_self everything_environment path1 written_share)));
   head = Named guarded_name;
   head_is = refl;
   name = Plain guarded_name;
@@ -339,7 +338,7 @@ acquire_fixed =
 acquires_it : Goes 1 (at loaded path1 (cell_half ∷ mutex_half ∷ []))
 acquires_it =
     do_prelude None (identity_of MutexAcquire) (core.Read 1 somewhere ∷ []) somewhere 2 MutexAcquire acquisition (symbol 2 ∷ []) (record { store = stored acquire_store Result (symbol 3); state = at loaded path1 (cell_half ∷ held ∷ applied_chunk written_share q ∷ []) } ∷ [])
-    refl refl acquires refl (inhabited acquisition.sorts (tt, (tt, (tt, tt)))) (λ h. refl) (refl, tt) refl (sorted path1 acquisition.sorts (symbol 2 ∷ []) (by_place path1 3 (OfSort (symbol 2) Pointers) refl, tt)) (
+    refl refl acquires refl (inhabited everything_environment refl acquisition.sorts (tt, (tt, (tt, tt)))) (λ h. refl) (refl, tt) refl (sorted everything_environment path1 acquisition.sorts (symbol 2 ∷ []) (by_place everything_environment path1 3 (OfSort (symbol 2) Pointers) refl, tt)) (
       nothing_bound (call_store (symbol 2 ∷ [])),
       (
         at loaded path1 (cell_half ∷ mutex_half ∷ []),
@@ -349,17 +348,17 @@ acquires_it =
           cell_half ∷ [],
           half_mutex,
           removes_later removes_here,
-          half_quotient path1 half_mutex (λ v. refl),
+          half_quotient everything_environment path1 half_mutex (λ v. refl),
           refl,
-          (half_sorted path1 half_mutex (λ v. refl), tt),
+          (half_sorted everything_environment path1 half_mutex (λ v. refl), tt),
           (
             refl,
             (
               name_bound (stored (call_store (symbol 2 ∷ [])) (Numbered 1) half_mutex) (Numbered 0) (symbol 2) refl,
-              same_self path1 (symbol 2),
+              same_self everything_environment path1 (symbol 2),
               (
                 refl,
-                (guarded_sorted path1 (symbol 0) (by_place path1 0 (OfSort (symbol 0) Pointers) refl), tt),
+                (guarded_sorted everything_environment refl path1 (symbol 0) (by_place everything_environment path1 0 (OfSort (symbol 0) Pointers) refl), tt),
                 (
                   3,
                   new_symbol 3 all_of_it acquire_store [] (at loaded path1 (cell_half ∷ [])) (fresh_state 3 (at loaded path1 (cell_half ∷ [])) fresh_three refl refl refl) fresh_acquired refl refl,
@@ -397,7 +396,7 @@ acquires_it =
 
 -- ---- the beginning
 loads : Goes 0 (at unloaded path1 (cell_half ∷ mutex_half ∷ []))
-loads = do_load 1 (core.Read 0 somewhere) mutex_field somewhere 1 (symbol 0) (symbol 0) (symbol 2) cell_half (mutex_half ∷ []) refl refl removes_here refl refl (same_self path1 (symbol 0)) acquires_it
+loads = do_load 1 (core.Read 0 somewhere) mutex_field somewhere 1 (symbol 0) (symbol 0) (symbol 2) cell_half (mutex_half ∷ []) refl refl removes_here refl refl (same_self everything_environment path1 (symbol 0)) acquires_it
 
 abbrev begun : SymbolicState
 begun = at unloaded path0 (pre_chunk written_share (symbol 0) (symbol 1) ∷ [])
@@ -407,11 +406,11 @@ opens_pre = record {
   chunk = pre_chunk written_share (symbol 0) (symbol 1);
   others = [];
   share = written_share;
-  taken = takes_all (same_self path0 written_share);
+  taken = takes_all (same_self everything_environment path0 written_share);
   head = Family thread_run_pre (Function tick_name);
   head_is = refl;
   name = Instance thread_run_pre tick_name;
-  of_head = instance thread_run_pre (Function tick_name) tick_name (same_self path0 (Function tick_name));
+  of_head = instance thread_run_pre (Function tick_name) tick_name (same_self everything_environment path0 (Function tick_name));
   body = shared_body;
   there = refl;
   arguments = symbol 0 ∷ symbol 1 ∷ [];
@@ -436,7 +435,7 @@ body = may_open (record { store = body_store; state = at unloaded path1 (cell_ha
     (λ s st among. among_one (λ s st. Goes 0 st) body_store (at unloaded path1 (cell_half ∷ mutex_half ∷ [])) loads s st among)
 
 pub tick_has : HasContract everything_environment tick tick_contract
-tick_has = record { known = refl; parameters = refl; fewer = omega arith; inhabited = inhabited tick_contract.sorts (tt, (tt, tt)) }
+tick_has = record { known = refl; parameters = refl; fewer = omega arith; inhabited = inhabited everything_environment refl tick_contract.sorts (tt, (tt, tt)) }
 
 pub tick_accepted : IsAcceptedFunction everything_environment everything_program tick tick_contract
 tick_accepted = record {

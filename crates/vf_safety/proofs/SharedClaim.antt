@@ -13,7 +13,7 @@ use Rattle.vf_rules.specs.Claims.{Refines, before_claim}
 use Rattle.vf_rules.specs.Accept.{all_of_it, AreFixed, facts_of_result, call_store, pointer_store, KeepsFixed}
 use Rattle.vf_safety.specs.Sharing.{tick_name, tick, sharing_program, tick_contract, sharing_environment}
 use Rattle.vf_safety.proofs.NewSymbols.{fresh_stored, fresh_call, fresh_state, new_symbol}
-use Rattle.vf_safety.proofs.SharingFacts.{among_one, same_self, by_place, nothing_bound, name_bound, sorted, fixed_stored, call_fixed}
+use Rattle.vf_safety.proofs.SharingFacts.{among_one, by_place, call_fixed, fixed_stored, name_bound, nothing_bound, same_self, sorted}
 use Rattle.vf_safety.proofs.SharedTick.{written_share, pre_chunk, post_chunk}
 
 abbrev claim_names : Store
@@ -55,15 +55,15 @@ kept_claim = (
       (
         pre_chunk written_share (symbol 0) (symbol 1),
         [],
-        takes_all (same_self claim_path written_share),
+        takes_all (same_self sharing_environment claim_path written_share),
         (
-          (refl, same_self claim_path (Function tick_name)),
+          (refl, same_self sharing_environment claim_path (Function tick_name)),
           (
             name_bound (call_store (symbol 0 ∷ [])) (Numbered 0) (symbol 0) refl,
-            same_self claim_path (symbol 0),
+            same_self sharing_environment claim_path (symbol 0),
             (
               refl,
-              (by_place claim_path 2 (OfSort (symbol 1) Anything) refl, tt),
+              (by_place sharing_environment claim_path 2 (OfSort (symbol 1) Anything) refl, tt),
               (
                 2,
                 new_symbol 2 all_of_it own_store [] (claimed_at claim_names []) (fresh_state 2 (claimed_at claim_names []) fresh_claimed refl refl refl) (fresh_stored 2 (call_store (symbol 0 ∷ [])) (Numbered 1) (symbol 1) (fresh_call 2 (symbol 0 ∷ []) refl) refl) refl refl,
@@ -86,13 +86,13 @@ kept_claim = (
                               (
                                 post_chunk written_share (symbol 0) (symbol 1),
                                 [],
-                                takes_all (same_self claim_path written_share),
+                                takes_all (same_self sharing_environment claim_path written_share),
                                 (
-                                  (refl, same_self claim_path (Function tick_name)),
+                                  (refl, same_self sharing_environment claim_path (Function tick_name)),
                                   (
                                     name_bound (stored claim_names Result (symbol 2)) (Numbered 0) (symbol 0) refl,
-                                    same_self claim_path (symbol 0),
-                                    (name_bound (stored claim_names Result (symbol 2)) (Numbered 1) (symbol 1) refl, same_self claim_path (symbol 1), (refl, keeps_claimed)),
+                                    same_self sharing_environment claim_path (symbol 0),
+                                    (name_bound (stored claim_names Result (symbol 2)) (Numbered 1) (symbol 1) refl, same_self sharing_environment claim_path (symbol 1), (refl, keeps_claimed)),
                                   ),
                                 ),
                               ),
@@ -133,6 +133,6 @@ refines = record {
     ),
   );
   sorted = λ s st among. among_one (λ s st. AreSorted sharing_environment st.path tick_contract.sorts (symbol 0 ∷ [])) claim_names (claimed_at (call_store (symbol 0 ∷ [])) (pre_chunk written_share (symbol 0) (symbol 1) ∷ []))
-      (sorted claim_path tick_contract.sorts (symbol 0 ∷ []) (by_place claim_path 0 (OfSort (symbol 0) Pointers) refl, tt)) s st among;
+      (sorted sharing_environment claim_path tick_contract.sorts (symbol 0 ∷ []) (by_place sharing_environment claim_path 0 (OfSort (symbol 0) Pointers) refl, tt)) s st among;
   kept = λ s st among. among_one KeptBy claim_names (claimed_at (call_store (symbol 0 ∷ [])) (pre_chunk written_share (symbol 0) (symbol 1) ∷ [])) kept_claim s st among;
 }

@@ -23,7 +23,7 @@ use Rattle.vf_rules.specs.Accept.{all_of_it, AreFixed, call_store, cell_chunk, b
 use Rattle.vf_safety.specs.Example.{somewhere, box_contract}
 use Rattle.vf_safety.specs.Sharing.{counter_name, count_field, mutex_field, tick_name, guarded_name, sharing_main, sharing_program, guarded_body, shared_body, sharing_environment}
 use Rattle.vf_safety.proofs.NewSymbols.{fresh_stored, fresh_call, fresh_arguments, fresh_state, new_symbol}
-use Rattle.vf_safety.proofs.SharingFacts.{among_one, same_self, by_value, by_place, guarded_sorted, half_of, whole_fraction, nothing_bound, name_bound, first_bound, inhabited, sorted, fixed_stored, call_fixed, integer_is_no_void}
+use Rattle.vf_safety.proofs.SharingFacts.{among_one, by_place, by_value, call_fixed, first_bound, fixed_stored, guarded_sorted, half_of, inhabited, integer_is_no_void, name_bound, nothing_bound, same_self, sorted, whole_fraction}
 use Rattle.vf_safety.proofs.SharedTick.{written_share, half_at, guarded_by, field_chunk, mutex_chunk, held_chunk, applied_chunk, guarded_chunk, post_chunk}
 
 -- the rules of main
@@ -103,7 +103,7 @@ pub fresh : (y : ℕ) → IsFreshIn y (call_store [])
 fresh y = fresh_call y [] refl
 
 pub renames : (path : List Fact) (share : Term) → Renames sharing_environment path (applied_chunk share q) (guarded_chunk share (symbol 0))
-renames path share = record { predicate = guarded_name; value = q; first = symbol 0 ∷ []; is = same_self path q; applied_head = refl; named_head = refl; one_share = refl; arguments = refl }
+renames path share = record { predicate = guarded_name; value = q; first = symbol 0 ∷ []; is = same_self sharing_environment path q; applied_head = refl; named_head = refl; one_share = refl; arguments = refl }
 
 -- ---- the last steps: the struct is freed
 keeps : (t : Term) → KeepsFixed box_contract (call_store []) (stored (call_store []) Result t)
@@ -119,7 +119,7 @@ number_facts path n (inr is) = subst (λ z. EntailsAll sharing_environment path 
 returns : Goes 12 (at three_locals path8 [])
 returns =
     do_return (core.Number (pos 7)) (Number (pos 7)) refl refl (number_facts path8 7 (inr refl)) integer_is_no_void
-    (first_bound (stored (call_store []) Result (Number (pos 7))) Result (Number (pos 7)) refl, same_self path8 (Number (pos 7)), (refl, keeps (Number (pos 7))))
+    (first_bound (stored (call_store []) Result (Number (pos 7))) Result (Number (pos 7)) refl, same_self sharing_environment path8 (Number (pos 7)), (refl, keeps (Number (pos 7))))
 
 frees : Goes 11 (at three_locals path8 (block ∷ cell_all ∷ opened_cell ∷ []))
 frees =
@@ -128,11 +128,11 @@ frees =
       block ∷ cell_all ∷ [],
       symbol 0,
       None,
-      takes_later (takes_later (takes_all (by_value path8 all_of_it (Share written_share (Fraction whole)) (λ v. refl)))),
+      takes_later (takes_later (takes_all (by_value sharing_environment path8 all_of_it (Share written_share (Fraction whole)) (λ v. refl)))),
       refl,
       refl,
-      same_self path8 (symbol 0),
-      (cell_all, block ∷ [], symbol 0, Some (symbol 1), takes_later (takes_all (same_self path8 all_of_it)), refl, refl, same_self path8 (symbol 0), (block, symbol 0, takes_all (same_self path8 all_of_it), refl, refl, same_self path8 (symbol 0))),
+      same_self sharing_environment path8 (symbol 0),
+      (cell_all, block ∷ [], symbol 0, Some (symbol 1), takes_later (takes_all (same_self sharing_environment path8 all_of_it)), refl, refl, same_self sharing_environment path8 (symbol 0), (block, symbol 0, takes_all (same_self sharing_environment path8 all_of_it), refl, refl, same_self sharing_environment path8 (symbol 0))),
     ) returns
 
 -- ---- the predicate's chunk is opened, and closed again
@@ -150,7 +150,7 @@ opens_guarded path locals cs = record {
   chunk = guarded_chunk written_share (symbol 0);
   others = cs;
   share = written_share;
-  taken = takes_last path written_share (guarded_chunk written_share (symbol 0)) cs (same_self path written_share);
+  taken = takes_last path written_share (guarded_chunk written_share (symbol 0)) cs (same_self sharing_environment path written_share);
   head = Named guarded_name;
   head_is = refl;
   name = Plain guarded_name;
@@ -174,15 +174,15 @@ closes_guarded : (path : List Fact) (locals : List (Option Term)) (cs ds : List 
     → Closes sharing_environment sharing_program (at locals path cs) (record { store = store_of (symbol 0 ∷ []); state = at locals path (ds ++ guarded_chunk all_of_it (symbol 0) ∷ []) } ∷ [])
 closes_guarded path locals cs ds content pointer takes = record {
   share = all_of_it;
-  fraction = whole_fraction path all_of_it (λ v. refl);
+  fraction = whole_fraction sharing_environment path all_of_it (λ v. refl);
   name = Plain guarded_name;
   openable = refl;
   body = guarded_body;
   there = refl;
   arguments = symbol 0 ∷ [];
   number = refl;
-  of_sorts = sorted path (Pointers ∷ []) (symbol 0 ∷ []) (pointer, tt);
-  inhabited = inhabited (Pointers ∷ []) (tt, tt);
+  of_sorts = sorted sharing_environment path (Pointers ∷ []) (symbol 0 ∷ []) (pointer, tt);
+  inhabited = inhabited sharing_environment refl (Pointers ∷ []) (tt, tt);
   consumed = (
     name_bound (store_of (symbol 0 ∷ [])) (Numbered 0) (symbol 0) refl,
     (
@@ -194,7 +194,7 @@ closes_guarded path locals cs ds content pointer takes = record {
           cell_chunk count_field (symbol 0) content,
           ds,
           takes,
-          (refl, (symbol 0, content, refl, same_self path (symbol 0), inl (refl, refl))),
+          (refl, (symbol 0, content, refl, same_self sharing_environment path (symbol 0), inl (refl, refl))),
         ),
       ),
     ),
@@ -218,7 +218,7 @@ disposes_it : Goes 10 (at three_locals path7 (block ∷ cell_all ∷ mutex_all �
 disposes_it =
     do_prelude None (identity_of MutexDispose) (core.Read 1 somewhere ∷ []) somewhere 11 MutexDispose disposal (symbol 1 ∷ [])
     (record { store = stored dispose_store Result (symbol 7); state = at three_locals path7 (block ∷ cell_all ∷ applied_chunk written_share q ∷ []) } ∷ [])
-    refl refl disposes refl (inhabited disposal.sorts (tt, (tt, tt))) (λ h. refl) (refl, tt) refl (sorted path7 disposal.sorts (symbol 1 ∷ []) (by_place path7 4 (OfSort (symbol 1) Pointers) refl, tt)) (
+    refl refl disposes refl (inhabited sharing_environment refl disposal.sorts (tt, (tt, tt))) (λ h. refl) (refl, tt) refl (sorted sharing_environment path7 disposal.sorts (symbol 1 ∷ []) (by_place sharing_environment path7 4 (OfSort (symbol 1) Pointers) refl, tt)) (
       nothing_bound (call_store (symbol 1 ∷ [])),
       (
         at three_locals path7 (block ∷ cell_all ∷ mutex_all ∷ []),
@@ -228,15 +228,15 @@ disposes_it =
           (
             mutex_all,
             block ∷ cell_all ∷ [],
-            takes_later (takes_later (takes_all (by_value path7 written_share all_of_it (λ v. refl)))),
+            takes_later (takes_later (takes_all (by_value sharing_environment path7 written_share all_of_it (λ v. refl)))),
             (
               refl,
               (
                 name_bound (call_store (symbol 1 ∷ [])) (Numbered 0) (symbol 1) refl,
-                same_self path7 (symbol 1),
+                same_self sharing_environment path7 (symbol 1),
                 (
                   refl,
-                  (guarded_sorted path7 (symbol 0) (by_place path7 1 (OfSort (symbol 0) Pointers) refl), tt),
+                  (guarded_sorted sharing_environment refl path7 (symbol 0) (by_place sharing_environment path7 1 (OfSort (symbol 0) Pointers) refl), tt),
                   (
                     7,
                     new_symbol 7 all_of_it dispose_store [] (at three_locals path7 (block ∷ cell_all ∷ [])) (fresh_state 7 (at three_locals path7 (block ∷ cell_all ∷ [])) (fresh 7) refl refl refl) (fresh_stored 7 (call_store (symbol 1 ∷ [])) (Numbered 1) q (fresh_call 7 (symbol 1 ∷ []) refl) refl) refl refl,
@@ -275,7 +275,7 @@ joins_cells = record {
   one_head = refl;
   arguments = refl;
   further = refl;
-  one_place = same_self path5 (symbol 0);
+  one_place = same_self sharing_environment path5 (symbol 0);
   total = all_of_it;
   sums = halves_sum path5 half_left (half_at written_share) (λ v. refl) (λ v. refl);
   both_is = refl;
@@ -292,7 +292,7 @@ joins_mutexes = record {
   one_head = refl;
   arguments = refl;
   further = refl;
-  one_place = by_place path6 10 (same (symbol 1) (symbol 6)) refl;
+  one_place = by_place sharing_environment path6 10 (same (symbol 1) (symbol 6)) refl;
   total = all_of_it;
   sums = halves_sum path6 (Share all_of_it (Share (Fraction whole) half_left)) (half_at written_share) (λ v. refl) (λ v. refl);
   both_is = refl;
@@ -313,11 +313,11 @@ opens_post = record {
   chunk = post_chunk written_share (symbol 0) info;
   others = block ∷ cell_half ∷ mutex_back ∷ [];
   share = written_share;
-  taken = takes_later (takes_later (takes_later (takes_all (same_self path4 written_share))));
+  taken = takes_later (takes_later (takes_later (takes_all (same_self sharing_environment path4 written_share))));
   head = Family thread_run_post (Function tick_name);
   head_is = refl;
   name = Instance thread_run_post tick_name;
-  of_head = instance thread_run_post (Function tick_name) tick_name (same_self path4 (Function tick_name));
+  of_head = instance thread_run_post (Function tick_name) tick_name (same_self sharing_environment path4 (Function tick_name));
   body = shared_body;
   there = refl;
   arguments = symbol 0 ∷ info ∷ [];
@@ -369,7 +369,7 @@ pub joins_it : Goes 9 (at three_locals path4 (block ∷ cell_half ∷ thread_chu
 joins_it =
     do_prelude None (identity_of ThreadJoin) (core.Read 2 somewhere ∷ []) somewhere 10 ThreadJoin join (symbol 2 ∷ [])
     (record { store = stored join_store Result (symbol 5); state = at three_locals path4 (block ∷ cell_half ∷ mutex_back ∷ post_chunk written_share (symbol 0) info ∷ []) } ∷ [])
-    refl refl joins refl (inhabited join.sorts (tt, (tt, (tt, (tt, tt))))) (λ h. refl) (refl, tt) refl (sorted path4 join.sorts (symbol 2 ∷ []) (by_place path4 5 (OfSort (symbol 2) Pointers) refl, tt)) (
+    refl refl joins refl (inhabited sharing_environment refl join.sorts (tt, (tt, (tt, (tt, tt))))) (λ h. refl) (refl, tt) refl (sorted sharing_environment path4 join.sorts (symbol 2 ∷ []) (by_place sharing_environment path4 5 (OfSort (symbol 2) Pointers) refl, tt)) (
       nothing_bound (call_store (symbol 2 ∷ [])),
       (
         at three_locals path4 (block ∷ cell_half ∷ thread_chunk ∷ mutex_back ∷ []),
@@ -379,18 +379,18 @@ joins_it =
           (
             thread_chunk,
             block ∷ cell_half ∷ mutex_back ∷ [],
-            takes_later (takes_later (takes_all (same_self path4 written_share))),
+            takes_later (takes_later (takes_all (same_self sharing_environment path4 written_share))),
             (
               refl,
               (
                 name_bound (call_store (symbol 2 ∷ [])) (Numbered 0) (symbol 2) refl,
-                same_self path4 (symbol 2),
+                same_self sharing_environment path4 (symbol 2),
                 (
                   refl,
                   (function_sorted path4, tt),
                   (
                     refl,
-                    (by_place path4 1 (OfSort (symbol 0) Pointers) refl, tt),
+                    (by_place sharing_environment path4 1 (OfSort (symbol 0) Pointers) refl, tt),
                     (
                       refl,
                       (info_sorted path4, tt),

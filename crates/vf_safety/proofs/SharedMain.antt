@@ -27,7 +27,7 @@ use Rattle.vf_safety.specs.Laws.{AreAccepted}
 use Rattle.vf_safety.specs.Example.{somewhere, box_contract}
 use Rattle.vf_safety.specs.Sharing.{counter_name, count_field, mutex_field, tick_name, tick, sharing_main, sharing_program, shared_body, tick_contract, sharing_environment, SharingIsAccepted}
 use Rattle.vf_safety.proofs.NewSymbols.{fresh_stored, fresh_call, fresh_state, new_symbol}
-use Rattle.vf_safety.proofs.SharingFacts.{none_some, some_same, among_one, same_self, by_value, by_place, guarded_sorted, half_sorted, half_quotient, halves, whole_fraction, nothing_bound, name_bound, first_bound, inhabited, sorted, fixed_stored, call_fixed, integer_is_no_void}
+use Rattle.vf_safety.proofs.SharingFacts.{among_one, by_place, by_value, call_fixed, first_bound, fixed_stored, guarded_sorted, half_quotient, half_sorted, halves, inhabited, integer_is_no_void, name_bound, none_some, nothing_bound, same_self, some_same, sorted, whole_fraction}
 use Rattle.vf_safety.proofs.SharedTick.{written_share, half_at, mutex_chunk, applied_chunk, guarded_chunk, pre_chunk, tick_has, tick_accepted}
 use Rattle.vf_safety.proofs.SharedEnd.{Goes, path1, path2, path3, path4, q, at, one_local, two_locals, three_locals, info, half_left, block, cell_half, cell_all, thread_chunk, held, opened_cell, mutex_back, fresh, renames, number_facts, takes_last, opened_last, closed_so, joins_it, function_sorted, info_sorted}
 use Rattle.vf_safety.proofs.SharedClaim.{refines}
@@ -49,7 +49,7 @@ releases_it : Goes 8 (at three_locals path4 (block ∷ cell_half ∷ thread_chun
 releases_it =
     do_prelude None (identity_of MutexRelease) (core.Read 1 somewhere ∷ []) somewhere 9 MutexRelease release (symbol 1 ∷ [])
     (record { store = stored release_store Result (symbol 4); state = at three_locals path4 (block ∷ cell_half ∷ thread_chunk ∷ mutex_back ∷ []) } ∷ [])
-    refl refl releases refl (inhabited release.sorts (tt, (tt, (tt, tt)))) (λ h. refl) (refl, tt) refl (sorted path4 release.sorts (symbol 1 ∷ []) (by_place path4 4 (OfSort (symbol 1) Pointers) refl, tt)) (
+    refl refl releases refl (inhabited sharing_environment refl release.sorts (tt, (tt, (tt, tt)))) (λ h. refl) (refl, tt) refl (sorted sharing_environment path4 release.sorts (symbol 1 ∷ []) (by_place sharing_environment path4 4 (OfSort (symbol 1) Pointers) refl, tt)) (
       nothing_bound (call_store (symbol 1 ∷ [])),
       (
         at three_locals path4 (block ∷ cell_half ∷ thread_chunk ∷ held ∷ guarded_chunk all_of_it (symbol 0) ∷ []),
@@ -59,21 +59,21 @@ releases_it =
           (
             held,
             block ∷ cell_half ∷ thread_chunk ∷ guarded_chunk all_of_it (symbol 0) ∷ [],
-            takes_later (takes_later (takes_later (takes_all (same_self path4 written_share)))),
+            takes_later (takes_later (takes_later (takes_all (same_self sharing_environment path4 written_share)))),
             (
               refl,
               (
                 name_bound (call_store (symbol 1 ∷ [])) (Numbered 0) (symbol 1) refl,
-                same_self path4 (symbol 1),
+                same_self sharing_environment path4 (symbol 1),
                 (
                   refl,
-                  (guarded_sorted path4 (symbol 0) (by_place path4 1 (OfSort (symbol 0) Pointers) refl), tt),
+                  (guarded_sorted sharing_environment refl path4 (symbol 0) (by_place sharing_environment path4 1 (OfSort (symbol 0) Pointers) refl), tt),
                   (
                     name_bound (stored (call_store (symbol 1 ∷ [])) (Numbered 1) q) CurrentThread (Variable CurrentThread) refl,
-                    same_self path4 (Variable CurrentThread),
+                    same_self sharing_environment path4 (Variable CurrentThread),
                     (
                       refl,
-                      (half_sorted path4 half_left (λ v. refl), tt),
+                      (half_sorted sharing_environment path4 half_left (λ v. refl), tt),
                       (
                         name_bound release_store (Numbered 1) q refl,
                         (
@@ -84,9 +84,9 @@ releases_it =
                             (
                               applied_chunk all_of_it q,
                               block ∷ cell_half ∷ thread_chunk ∷ [],
-                              takes_later (takes_later (takes_later (takes_all (by_value path4 written_share all_of_it (λ v. refl))))),
+                              takes_later (takes_later (takes_later (takes_all (by_value sharing_environment path4 written_share all_of_it (λ v. refl))))),
                               (
-                                same_self path4 q,
+                                same_self sharing_environment path4 q,
                                 (
                                   4,
                                   new_symbol 4 all_of_it release_store [] (at three_locals path4 (block ∷ cell_half ∷ thread_chunk ∷ [])) (fresh_state 4 (at three_locals path4 (block ∷ cell_half ∷ thread_chunk ∷ [])) (fresh 4) refl refl refl) fresh_released refl refl,
@@ -115,13 +115,13 @@ number_fits path type is = subst (λ z. EntailsAll sharing_environment path (fac
 
 closes_it : Goes 8 (at three_locals path4 (block ∷ cell_half ∷ thread_chunk ∷ held ∷ cell_chunk count_field (symbol 0) (Some (Number (pos 5))) ∷ []))
 closes_it =
-    closed_so 8 path4 three_locals (block ∷ cell_half ∷ thread_chunk ∷ held ∷ cell_chunk count_field (symbol 0) (Some (Number (pos 5))) ∷ []) (block ∷ cell_half ∷ thread_chunk ∷ held ∷ []) (Some (Number (pos 5))) (by_place path4 1 (OfSort (symbol 0) Pointers) refl)
-    (takes_last path4 written_share (cell_chunk count_field (symbol 0) (Some (Number (pos 5)))) (block ∷ cell_half ∷ thread_chunk ∷ held ∷ []) (by_value path4 written_share all_of_it (λ v. refl))) releases_it
+    closed_so 8 path4 three_locals (block ∷ cell_half ∷ thread_chunk ∷ held ∷ cell_chunk count_field (symbol 0) (Some (Number (pos 5))) ∷ []) (block ∷ cell_half ∷ thread_chunk ∷ held ∷ []) (Some (Number (pos 5))) (by_place sharing_environment path4 1 (OfSort (symbol 0) Pointers) refl)
+    (takes_last path4 written_share (cell_chunk count_field (symbol 0) (Some (Number (pos 5)))) (block ∷ cell_half ∷ thread_chunk ∷ held ∷ []) (by_value sharing_environment path4 written_share all_of_it (λ v. refl))) releases_it
 
 writes : Goes 7 (at three_locals path4 (block ∷ cell_half ∷ thread_chunk ∷ held ∷ opened_cell ∷ []))
 writes =
     do_store (core.Read 0 somewhere) (core.Number (pos 5)) count_field somewhere 8 (symbol 0) (symbol 0) (Number (pos 5)) None opened_cell (block ∷ cell_half ∷ thread_chunk ∷ held ∷ []) refl refl refl
-    (takes_last path4 all_of_it opened_cell (block ∷ cell_half ∷ thread_chunk ∷ held ∷ []) (by_value path4 all_of_it (Share written_share (Fraction whole)) (λ v. refl))) refl refl (same_self path4 (symbol 0)) (number_fits path4) closes_it
+    (takes_last path4 all_of_it opened_cell (block ∷ cell_half ∷ thread_chunk ∷ held ∷ []) (by_value sharing_environment path4 all_of_it (Share written_share (Fraction whole)) (λ v. refl))) refl refl (same_self sharing_environment path4 (symbol 0)) (number_fits path4) closes_it
 
 opens_it : Goes 7 (at three_locals path3 (block ∷ cell_half ∷ thread_chunk ∷ held ∷ applied_chunk written_share q ∷ []))
 opens_it = opened_last 7 path3 three_locals (block ∷ cell_half ∷ thread_chunk ∷ held ∷ []) writes
@@ -146,7 +146,7 @@ acquires_it : Goes 6 (at three_locals path3 (block ∷ mutex_half ∷ cell_half 
 acquires_it =
     do_prelude None (identity_of MutexAcquire) (core.Read 1 somewhere ∷ []) somewhere 7 MutexAcquire acquisition (symbol 1 ∷ [])
     (record { store = stored acquire_store Result (symbol 3); state = at three_locals path3 (block ∷ cell_half ∷ thread_chunk ∷ held ∷ applied_chunk written_share q ∷ []) } ∷ [])
-    refl refl acquires refl (inhabited acquisition.sorts (tt, (tt, (tt, tt)))) (λ h. refl) (refl, tt) refl (sorted path3 acquisition.sorts (symbol 1 ∷ []) (by_place path3 4 (OfSort (symbol 1) Pointers) refl, tt)) (
+    refl refl acquires refl (inhabited sharing_environment refl acquisition.sorts (tt, (tt, (tt, tt)))) (λ h. refl) (refl, tt) refl (sorted sharing_environment path3 acquisition.sorts (symbol 1 ∷ []) (by_place sharing_environment path3 4 (OfSort (symbol 1) Pointers) refl, tt)) (
       nothing_bound (call_store (symbol 1 ∷ [])),
       (
         at three_locals path3 (block ∷ mutex_half ∷ cell_half ∷ thread_chunk ∷ []),
@@ -156,17 +156,17 @@ acquires_it =
           block ∷ cell_half ∷ thread_chunk ∷ [],
           half_left,
           removes_later removes_here,
-          half_quotient path3 half_left (λ v. refl),
+          half_quotient sharing_environment path3 half_left (λ v. refl),
           refl,
-          (half_sorted path3 half_left (λ v. refl), tt),
+          (half_sorted sharing_environment path3 half_left (λ v. refl), tt),
           (
             refl,
             (
               name_bound (stored (call_store (symbol 1 ∷ [])) (Numbered 1) half_left) (Numbered 0) (symbol 1) refl,
-              same_self path3 (symbol 1),
+              same_self sharing_environment path3 (symbol 1),
               (
                 refl,
-                (guarded_sorted path3 (symbol 0) (by_place path3 1 (OfSort (symbol 0) Pointers) refl), tt),
+                (guarded_sorted sharing_environment refl path3 (symbol 0) (by_place sharing_environment path3 1 (OfSort (symbol 0) Pointers) refl), tt),
                 (
                   3,
                   new_symbol 3 all_of_it acquire_store [] (at three_locals path3 (block ∷ cell_half ∷ thread_chunk ∷ [])) (fresh_state 3 (at three_locals path3 (block ∷ cell_half ∷ thread_chunk ∷ [])) (fresh 3) refl refl refl) fresh_acquired refl refl,
@@ -226,8 +226,8 @@ starts_it : Goes 5 (at two_locals path2 (block ∷ mutex_half ∷ cell_half ∷ 
 starts_it =
     do_prelude (Some 2) (identity_of ThreadStartJoinable) (core.Function tick_name ∷ core.Read 0 somewhere ∷ []) somewhere 6 ThreadStartJoinable start_joinable start_terms
     (record { store = stored start_store Result (symbol 2); state = at three_locals path3 (block ∷ mutex_half ∷ cell_half ∷ thread_chunk ∷ []) } ∷ [])
-    refl refl (starts_joinable is_run_type) refl (inhabited start_joinable.sorts (tt, (tt, (tt, tt)))) (λ h. absurd (pointer_no_void h)) (refl, (refl, tt)) refl
-    (sorted path2 start_joinable.sorts start_terms (function_sorted path2, (by_place path2 1 (OfSort (symbol 0) Pointers) refl, tt))) (
+    refl refl (starts_joinable is_run_type) refl (inhabited sharing_environment refl start_joinable.sorts (tt, (tt, (tt, tt)))) (λ h. absurd (pointer_no_void h)) (refl, (refl, tt)) refl
+    (sorted sharing_environment path2 start_joinable.sorts start_terms (function_sorted path2, (by_place sharing_environment path2 1 (OfSort (symbol 0) Pointers) refl, tt))) (
       name_bound (call_store start_terms) (Numbered 0) (Function tick_name) refl,
       record { by = λ v m. refl },
       (
@@ -240,12 +240,12 @@ starts_it =
             (
               pre_chunk all_of_it (symbol 0) info,
               block ∷ mutex_half ∷ cell_half ∷ [],
-              takes_later (takes_later (takes_later (takes_all (by_value path2 written_share all_of_it (λ v. refl))))),
+              takes_later (takes_later (takes_later (takes_all (by_value sharing_environment path2 written_share all_of_it (λ v. refl))))),
               (
-                (refl, same_self path2 (Function tick_name)),
+                (refl, same_self sharing_environment path2 (Function tick_name)),
                 (
                   name_bound (call_store start_terms) (Numbered 1) (symbol 0) refl,
-                  same_self path2 (symbol 0),
+                  same_self sharing_environment path2 (symbol 0),
                   (
                     refl,
                     (info_sorted path2, tt),
@@ -278,15 +278,15 @@ mutex_new = mutex_chunk written_share (symbol 1) q
 closes_pre : Closes sharing_environment sharing_program (at two_locals path2 (block ∷ mutex_new ∷ cell_all ∷ [])) (record { store = pre_store; state = at two_locals path2 (block ∷ mutex_half ∷ cell_half ∷ pre_chunk all_of_it (symbol 0) info ∷ []) } ∷ [])
 closes_pre = record {
   share = all_of_it;
-  fraction = whole_fraction path2 all_of_it (λ v. refl);
+  fraction = whole_fraction sharing_environment path2 all_of_it (λ v. refl);
   name = Instance thread_run_pre tick_name;
   openable = tt;
   body = shared_body;
   there = refl;
   arguments = symbol 0 ∷ info ∷ [];
   number = refl;
-  of_sorts = sorted path2 (Pointers ∷ Anything ∷ Pointers ∷ []) (symbol 0 ∷ info ∷ []) (by_place path2 1 (OfSort (symbol 0) Pointers) refl, (info_sorted path2, tt));
-  inhabited = inhabited (Pointers ∷ Anything ∷ Pointers ∷ []) (tt, (tt, (tt, tt)));
+  of_sorts = sorted sharing_environment path2 (Pointers ∷ Anything ∷ Pointers ∷ []) (symbol 0 ∷ info ∷ []) (by_place sharing_environment path2 1 (OfSort (symbol 0) Pointers) refl, (info_sorted path2, tt));
+  inhabited = inhabited sharing_environment refl (Pointers ∷ Anything ∷ Pointers ∷ []) (tt, (tt, (tt, tt)));
   consumed = (
     name_bound (store_of (symbol 0 ∷ info ∷ [])) (Numbered 0) (symbol 0) refl,
     (
@@ -297,17 +297,17 @@ closes_pre = record {
         (
           cell_all,
           block ∷ mutex_new ∷ cell_half ∷ [],
-          takes_later (takes_later (takes_part half_left (halves path2 all_of_it (half_at all_of_it) half_left (λ v. refl) (λ v. refl) (λ v. refl)))),
+          takes_later (takes_later (takes_part half_left (halves sharing_environment path2 all_of_it (half_at all_of_it) half_left (λ v. refl) (λ v. refl) (λ v. refl)))),
           (
             refl,
             (
               symbol 0,
               Some (symbol 1),
               refl,
-              same_self path2 (symbol 0),
+              same_self sharing_environment path2 (symbol 0),
               (
                 refl,
-                (by_place path2 4 (OfSort (symbol 1) Pointers) refl, tt),
+                (by_place sharing_environment path2 4 (OfSort (symbol 1) Pointers) refl, tt),
                 (
                   nothing_bound pre_store,
                   (
@@ -318,8 +318,8 @@ closes_pre = record {
                       (
                         mutex_new,
                         block ∷ mutex_half ∷ cell_half ∷ [],
-                        takes_later (takes_part half_left (halves path2 written_share (half_at all_of_it) half_left (λ v. refl) (λ v. refl) (λ v. refl))),
-                        (refl, (name_bound pre_store (Numbered 2) (symbol 1) refl, same_self path2 (symbol 1), (first_bound pre_store (Numbered 0) (symbol 0) refl, same_self path2 q, inl (refl, refl)))),
+                        takes_later (takes_part half_left (halves sharing_environment path2 written_share (half_at all_of_it) half_left (λ v. refl) (λ v. refl) (λ v. refl))),
+                        (refl, (name_bound pre_store (Numbered 2) (symbol 1) refl, same_self sharing_environment path2 (symbol 1), (first_bound pre_store (Numbered 0) (symbol 0) refl, same_self sharing_environment path2 q, inl (refl, refl)))),
                       ),
                     ),
                   ),
@@ -339,12 +339,12 @@ closed_pre = may_close (record { store = pre_store; state = at two_locals path2 
 
 -- ---- the mutex is created
 pointer_fits : (type : TypeTree) → type_of_field sharing_program counter_name 1 ≡ Some type → EntailsAll sharing_environment path2 (facts_of_type type (symbol 1)) × (type ≢ Void)
-pointer_fits type is = subst (λ z. EntailsAll sharing_environment path2 (facts_of_type z (symbol 1)) × (z ≢ Void)) (some_same is) ((by_place path2 4 (OfSort (symbol 1) Pointers) refl, tt), λ h. pointer_no_void h)
+pointer_fits type is = subst (λ z. EntailsAll sharing_environment path2 (facts_of_type z (symbol 1)) × (z ≢ Void)) (some_same is) ((by_place sharing_environment path2 4 (OfSort (symbol 1) Pointers) refl, tt), λ h. pointer_no_void h)
 
 stores_mutex : Goes 4 (at two_locals path2 (cell_chunk mutex_field (symbol 0) None ∷ block ∷ mutex_new ∷ []))
 stores_mutex =
     do_store (core.Read 0 somewhere) (core.Read 1 somewhere) mutex_field somewhere 5 (symbol 0) (symbol 0) (symbol 1) None (cell_chunk mutex_field (symbol 0) None) (block ∷ mutex_new ∷ []) refl refl refl
-    (takes_all (same_self path2 all_of_it)) refl refl (same_self path2 (symbol 0)) pointer_fits closed_pre
+    (takes_all (same_self sharing_environment path2 all_of_it)) refl refl (same_self sharing_environment path2 (symbol 0)) pointer_fits closed_pre
 
 abbrev arg_chunk : SymbolicChunk
 arg_chunk = record { share = all_of_it; head = Of (Named create_mutex_ghost_arg_name); arguments = Some q ∷ [] }
@@ -358,7 +358,7 @@ new_cell = cell_chunk mutex_field (symbol 0) None
 creates_it : Goes 3 (at one_local path1 (new_cell ∷ block ∷ guarded_chunk all_of_it (symbol 0) ∷ arg_chunk ∷ []))
 creates_it =
     do_prelude (Some 1) (identity_of CreateMutex) [] somewhere 4 CreateMutex creation [] (record { store = stored create_store Result (symbol 1); state = at two_locals path2 (new_cell ∷ block ∷ mutex_new ∷ []) } ∷ [])
-    refl refl (creates refl) refl (inhabited creation.sorts (tt, tt)) (λ h. absurd (pointer_no_void h)) tt refl (sorted path1 creation.sorts [] tt) (
+    refl refl (creates refl) refl (inhabited sharing_environment refl creation.sorts (tt, tt)) (λ h. absurd (pointer_no_void h)) tt refl (sorted sharing_environment path1 creation.sorts [] tt) (
       nothing_bound (call_store []),
       (
         at one_local path1 (new_cell ∷ block ∷ guarded_chunk all_of_it (symbol 0) ∷ arg_chunk ∷ []),
@@ -368,12 +368,12 @@ creates_it =
           (
             arg_chunk,
             new_cell ∷ block ∷ guarded_chunk all_of_it (symbol 0) ∷ [],
-            takes_later (takes_later (takes_later (takes_all (by_value path1 written_share all_of_it (λ v. refl))))),
+            takes_later (takes_later (takes_later (takes_all (by_value sharing_environment path1 written_share all_of_it (λ v. refl))))),
             (
               refl,
               (
                 refl,
-                (guarded_sorted path1 (symbol 0) (by_place path1 1 (OfSort (symbol 0) Pointers) refl), tt),
+                (guarded_sorted sharing_environment refl path1 (symbol 0) (by_place sharing_environment path1 1 (OfSort (symbol 0) Pointers) refl), tt),
                 (
                   name_bound create_store (Numbered 0) q refl,
                   (
@@ -384,9 +384,9 @@ creates_it =
                       (
                         applied_chunk all_of_it q,
                         new_cell ∷ block ∷ [],
-                        takes_later (takes_later (takes_all (by_value path1 written_share all_of_it (λ v. refl)))),
+                        takes_later (takes_later (takes_all (by_value sharing_environment path1 written_share all_of_it (λ v. refl)))),
                         (
-                          same_self path1 q,
+                          same_self sharing_environment path1 q,
                           (
                             1,
                             new_symbol 1 all_of_it create_store [] (at one_local path1 (new_cell ∷ block ∷ [])) (fresh_state 1 (at one_local path1 (new_cell ∷ block ∷ [])) (fresh 1) refl refl refl) (fresh_stored 1 (call_store []) (Numbered 0) q (fresh 1) refl) refl refl,
@@ -409,15 +409,15 @@ creates_it =
 closes_arg : Closes sharing_environment sharing_program (at one_local path1 (new_cell ∷ block ∷ guarded_chunk all_of_it (symbol 0) ∷ [])) (record { store = store_of (q ∷ []); state = at one_local path1 (new_cell ∷ block ∷ guarded_chunk all_of_it (symbol 0) ∷ arg_chunk ∷ []) } ∷ [])
 closes_arg = record {
   share = all_of_it;
-  fraction = whole_fraction path1 all_of_it (λ v. refl);
+  fraction = whole_fraction sharing_environment path1 all_of_it (λ v. refl);
   name = Plain create_mutex_ghost_arg_name;
   openable = refl;
   body = ghost_arg_body;
   there = refl;
   arguments = q ∷ [];
   number = refl;
-  of_sorts = sorted path1 (invariants ∷ []) (q ∷ []) (guarded_sorted path1 (symbol 0) (by_place path1 1 (OfSort (symbol 0) Pointers) refl), tt);
-  inhabited = inhabited (invariants ∷ []) (tt, tt);
+  of_sorts = sorted sharing_environment path1 (invariants ∷ []) (q ∷ []) (guarded_sorted sharing_environment refl path1 (symbol 0) (by_place sharing_environment path1 1 (OfSort (symbol 0) Pointers) refl), tt);
+  inhabited = inhabited sharing_environment refl (invariants ∷ []) (tt, tt);
   consumed = (nothing_bound (store_of (q ∷ [])), record { by = λ v m. refl }, inl (refl, refl));
 }
 
@@ -430,7 +430,7 @@ abbrev new_count : SymbolicChunk
 new_count = cell_chunk count_field (symbol 0) None
 
 with_struct : Goes 3 (at one_local path1 (new_count ∷ new_cell ∷ block ∷ []))
-with_struct = closed_so 3 path1 one_local (new_count ∷ new_cell ∷ block ∷ []) (new_cell ∷ block ∷ []) None (by_place path1 1 (OfSort (symbol 0) Pointers) refl) (takes_all (by_value path1 written_share all_of_it (λ v. refl))) closed_arg
+with_struct = closed_so 3 path1 one_local (new_count ∷ new_cell ∷ block ∷ []) (new_cell ∷ block ∷ []) None (by_place sharing_environment path1 1 (OfSort (symbol 0) Pointers) refl) (takes_all (by_value sharing_environment path1 written_share all_of_it (λ v. refl))) closed_arg
 
 not_both : (b : Bool) → b ≡ true → not b ≡ true → ⊥
 not_both b h k = false≢true (sym (ap not h) ∙ k)
