@@ -26,15 +26,15 @@ use Rattle.vf_rules.specs.Accept.{all_of_it, AreFixed, call_store, cell_chunk, H
 use Rattle.vf_safety.specs.Laws.{AreAccepted}
 use Rattle.vf_safety.specs.Example.{somewhere, box_contract}
 use Rattle.vf_safety.specs.Sharing.{counter_name, count_field, mutex_field, tick_name, tick, shared_body, tick_contract}
-use Rattle.vf_safety.specs.Everything.{everything_main, everything_program, everything_environment, EverythingIsAccepted}
+use Rattle.vf_safety.specs.Everything.{with_list, everything_main, everything_program, everything_environment, EverythingIsAccepted}
 use Rattle.vf_safety.proofs.NewSymbols.{fresh_stored, fresh_call, fresh_state, new_symbol}
 use Rattle.vf_safety.proofs.SharingFacts.{among_one, by_place, by_value, call_fixed, first_bound, fixed_stored, guarded_sorted, half_quotient, half_sorted, halves, inhabited, integer_is_no_void, name_bound, none_some, nothing_bound, same_self, some_same, sorted, whole_fraction}
 use Rattle.vf_safety.proofs.SharedTick.{written_share, half_at, mutex_chunk, applied_chunk, guarded_chunk, pre_chunk}
-use Rattle.vf_safety.proofs.EverythingTick.{tick_has, tick_accepted}
+use Rattle.vf_safety.proofs.SharedTick.{tick_has, tick_accepted}
 use Rattle.vf_safety.proofs.SharedEnd.{path1, path2, path3, path4, q, at, info, half_left, block, cell_half, cell_all, thread_chunk, held, opened_cell, mutex_back, fresh}
 use Rattle.vf_safety.proofs.EverythingLoop.{Goes}
 use Rattle.vf_safety.proofs.EverythingEnd.{one_local, two_locals, three_locals, renames, number_facts, takes_last, opened_last, closed_so, joins_it, function_sorted, info_sorted}
-use Rattle.vf_safety.proofs.EverythingClaim.{refines}
+use Rattle.vf_safety.proofs.SharedClaim.{refines}
 
 -- ---- the mutex is released
 abbrev release_store : Store
@@ -474,7 +474,7 @@ accepted_under f own known accepted g k same has =
 
 all_accepted : AreAccepted everything_environment everything_program
 all_accepted zero f k is has = accepted_under everything_main box_contract refl main_accepted f k (some_same is) has
-all_accepted (suc zero) f k is has = accepted_under tick tick_contract refl tick_accepted f k (some_same is) has
+all_accepted (suc zero) f k is has = accepted_under tick tick_contract refl (tick_accepted with_list) f k (some_same is) has
 all_accepted (suc (suc n)) f k is has = none_some is
 
 both_true : (a b : Bool) → (a && b) ≡ true → (a ≡ true) × (b ≡ true)
@@ -487,7 +487,7 @@ claims g type contract claimed of_type =
     let contract_is : run_joinable ≡ contract = some_same (sym (ap (λ b. cond b (Some run_joinable) None) both.1) ∙ of_type) in
     subst (λ z. KeepsClaim everything_environment everything_program g z) contract_is
     (subst (λ z. KeepsClaim everything_environment everything_program z run_joinable) (sym ((identities_told g tick_name).0 both.0))
-    (record { number = 1; function = tick; named = refl; is = refl; own = tick_contract; has = tick_has; refines = refines }))
+    (record { number = 1; function = tick; named = refl; is = refl; own = tick_contract; has = (tick_has with_list); refines = (refines with_list) }))
 
 pub everything_is_accepted : EverythingIsAccepted
 everything_is_accepted = record {

@@ -25,7 +25,7 @@ use Rattle.vf_rules.specs.Claims.{KeepsClaim}
 use Rattle.vf_rules.specs.Accept.{all_of_it, AreFixed, call_store, cell_chunk, HasContract, do_allocate, do_if, do_abort, do_store, do_prelude, may_drop, may_close, IsAcceptedFunction}
 use Rattle.vf_safety.specs.Laws.{AreAccepted}
 use Rattle.vf_safety.specs.Example.{somewhere, box_contract}
-use Rattle.vf_safety.specs.Sharing.{counter_name, count_field, mutex_field, tick_name, tick, sharing_main, sharing_program, shared_body, tick_contract, sharing_environment, SharingIsAccepted}
+use Rattle.vf_safety.specs.Sharing.{alone, counter_name, count_field, mutex_field, tick_name, tick, sharing_main, sharing_program, shared_body, tick_contract, sharing_environment, SharingIsAccepted}
 use Rattle.vf_safety.proofs.NewSymbols.{fresh_stored, fresh_call, fresh_state, new_symbol}
 use Rattle.vf_safety.proofs.SharingFacts.{among_one, by_place, by_value, call_fixed, first_bound, fixed_stored, guarded_sorted, half_quotient, half_sorted, halves, inhabited, integer_is_no_void, name_bound, none_some, nothing_bound, same_self, some_same, sorted, whole_fraction}
 use Rattle.vf_safety.proofs.SharedTick.{written_share, half_at, mutex_chunk, applied_chunk, guarded_chunk, pre_chunk, tick_has, tick_accepted}
@@ -470,7 +470,7 @@ accepted_under f own known accepted g k same has =
 
 all_accepted : AreAccepted sharing_environment sharing_program
 all_accepted zero f k is has = accepted_under sharing_main box_contract refl main_accepted f k (some_same is) has
-all_accepted (suc zero) f k is has = accepted_under tick tick_contract refl tick_accepted f k (some_same is) has
+all_accepted (suc zero) f k is has = accepted_under tick tick_contract refl (tick_accepted alone) f k (some_same is) has
 all_accepted (suc (suc n)) f k is has = none_some is
 
 both_true : (a b : Bool) → (a && b) ≡ true → (a ≡ true) × (b ≡ true)
@@ -483,7 +483,7 @@ claims g type contract claimed of_type =
     let contract_is : run_joinable ≡ contract = some_same (sym (ap (λ b. cond b (Some run_joinable) None) both.1) ∙ of_type) in
     subst (λ z. KeepsClaim sharing_environment sharing_program g z) contract_is
     (subst (λ z. KeepsClaim sharing_environment sharing_program z run_joinable) (sym ((identities_told g tick_name).0 both.0))
-    (record { number = 1; function = tick; named = refl; is = refl; own = tick_contract; has = tick_has; refines = refines }))
+    (record { number = 1; function = tick; named = refl; is = refl; own = tick_contract; has = (tick_has alone); refines = (refines alone) }))
 
 pub sharing_is_accepted : SharingIsAccepted
 sharing_is_accepted = record {

@@ -1,16 +1,16 @@
 -- A program with a loop, a heap, a recursive predicate and a mutex that two threads share, all in one, with its contracts and predicates: the one with a shared mutex, whose main builds a list once the thread is joined.
-use Rattle.std.specs.Prelude.{pos, cond, ◌&&◌, nat_eq, List, [], ◌∷◌, Option, Some, codes}
+use Rattle.std.specs.Prelude.{pos, cond, ◌&&◌, nat_eq, List, [], ◌∷◌, Some, None, codes}
 use Rattle.vf_base.specs.declared.int_type.IntType.TheVariants as types
 use Rattle.vf_tree.specs.Core.{Identity, Field, Integer, PointerToStruct, Read, Add, Less, Equal, StepTree, Set, Store, Allocate, Free, If, Call, Return, FunctionTree, ProgramTree}
 use Rattle.vf_tree.specs.Core as core
 use Rattle.vf_model.specs.Values.{same_identity}
 use Rattle.vf_model.specs.PreludeFunctions.{Abort, ThreadStartJoinable, ThreadJoin, CreateMutex, MutexAcquire, MutexRelease, MutexDispose, identity_of, pointer_to_mutex, pointer_to_thread}
 use Rattle.vf_meaning.specs.Ghost.{Pointers, Numbered, Null, Compare}
-use Rattle.vf_meaning.specs.Assertions.{Is, Names, BlockOf, Named, Assertion, Empty, Both, Choose, Cell, Chunk, BodyName, Plain, Instance, BodyTree, Environment}
+use Rattle.vf_meaning.specs.Assertions.{Is, Names, BlockOf, Named, Assertion, Empty, Both, Choose, Cell, Chunk, BodyTree, Environment}
 use Rattle.vf_rules.specs.Mutexes.{full, name}
 use Rattle.vf_safety.specs.Laws.{IsAcceptedProgram}
 use Rattle.vf_safety.specs.Example.{somewhere, main_name}
-use Rattle.vf_safety.specs.Sharing.{counter_name, count_field, mutex_field, tick_name, does, tick, sharing_bodies, sharing_environment}
+use Rattle.vf_safety.specs.Sharing.{counter_name, count_field, mutex_field, tick_name, does, Beside, main_beside, program_beside, environment_beside}
 
 -- the identity of a struct with one field, which points to the next one
 abbrev pub node_name : Identity
@@ -56,24 +56,6 @@ everything_steps =
     ∷ Free (Read 0 somewhere) counter_name somewhere 12
     ∷ list_steps
 
--- main of the example, with the locals `c`, `m`, `t`, `h`, `n` and `i`
-abbrev pub everything_main : FunctionTree
-everything_main = record {
-  identity = main_name;
-  signature = record { result = Integer types.Int; parameters = [] };
-  locals = PointerToStruct counter_name ∷ pointer_to_mutex ∷ pointer_to_thread ∷ PointerToStruct node_name ∷ PointerToStruct node_name ∷ Integer types.Int ∷ [];
-  steps = everything_steps;
-  closing = somewhere;
-}
-
--- the program of the example
-abbrev pub everything_program : ProgramTree
-everything_program = record {
-  functions = everything_main ∷ tick ∷ [];
-  structs = record { identity = counter_name; fields = Integer types.Int ∷ pointer_to_mutex ∷ [] } ∷ record { identity = node_name; fields = PointerToStruct node_name ∷ [] } ∷ [];
-  main = 0;
-}
-
 -- `predicate nodes(struct node *p) = p == 0 ? emp : p->next |-> ?q &*& malloc_block_node(p) &*& nodes(q);`
 abbrev pub nodes_body : BodyTree
 nodes_body = record {
@@ -86,18 +68,28 @@ nodes_body = record {
 abbrev pub nodes_of_head : Assertion
 nodes_of_head = Chunk full (Named nodes_name) (Is (name 0) ∷ [])
 
--- the bodies of the program with a shared mutex, and that of the list
-abbrev pub everything_bodies : BodyName → Option BodyTree
-everything_bodies (Plain q) = cond (same_identity q nodes_name) (Some nodes_body) (sharing_bodies (Plain q))
-everything_bodies (Instance q g) = sharing_bodies (Instance q g)
-
--- what the list has is leaked before the last step of main, and all else is declared as in the program with a shared mutex
-abbrev pub everything_environment : Environment
-everything_environment = record sharing_environment {
-  predicates = λ q. cond (same_identity q nodes_name) (Some (record { first = []; others = Pointers ∷ [] })) (sharing_environment.predicates q);
-  bodies = everything_bodies;
+-- What the example has beside the mutex and the second thread: the locals `c`, `m`, `t`, `h`, `n` and `i` of main and its steps, the struct and the predicate of a list, and a leak of the list before the last step of main
+abbrev pub with_list : Beside
+with_list = record {
+  locals = PointerToStruct counter_name ∷ pointer_to_mutex ∷ pointer_to_thread ∷ PointerToStruct node_name ∷ PointerToStruct node_name ∷ Integer types.Int ∷ [];
+  steps = everything_steps;
+  structs = record { identity = node_name; fields = PointerToStruct node_name ∷ [] } ∷ [];
+  predicates = λ q. cond (same_identity q nodes_name) (Some (record { first = []; others = Pointers ∷ [] })) None;
+  bodies = λ q. cond (same_identity q nodes_name) (Some nodes_body) None;
   leaks = λ g n. same_identity g main_name && nat_eq n 21;
 }
+
+-- main of the example
+abbrev pub everything_main : FunctionTree
+everything_main = main_beside with_list
+
+-- the program of the example
+abbrev pub everything_program : ProgramTree
+everything_program = program_beside with_list
+
+-- what is declared in the example
+abbrev pub everything_environment : Environment
+everything_environment = environment_beside with_list
 
 -- the example is accepted
 abbrev pub EverythingIsAccepted : Type 0

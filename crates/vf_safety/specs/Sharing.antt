@@ -1,12 +1,12 @@
 -- A program in which two threads write a struct's field under one mutex, with the contracts of its functions, its predicates and what its families are at the function of the second thread.
-use Rattle.std.specs.Prelude.{ℕ, pos, false, cond, ◌&&◌, List, [], ◌∷◌, Option, Some, None, codes}
+use Rattle.std.specs.Prelude.{ℕ, Bool, pos, false, cond, ◌&&◌, List, [], ◌∷◌, Option, Some, None, codes}
 use Rattle.vf_base.specs.declared.int_type.IntType.TheVariants as types
-use Rattle.vf_tree.specs.Core.{Identity, Field, Integer, PointerToVoid, PointerToStruct, Read, Equal, Signature, StepTree, Load, Store, Allocate, Free, Call, If, Return, FunctionTree, ProgramTree}
+use Rattle.vf_tree.specs.Core.{Identity, Field, TypeTree, StructTree, Integer, PointerToVoid, PointerToStruct, Read, Equal, Signature, StepTree, Load, Store, Allocate, Free, Call, If, Return, FunctionTree, ProgramTree}
 use Rattle.vf_tree.specs.Core as core
 use Rattle.vf_model.specs.Values.{Odd, same_identity}
 use Rattle.vf_model.specs.PreludeFunctions.{Abort, ThreadStartJoinable, ThreadJoin, CreateMutex, MutexAcquire, MutexRelease, MutexDispose, identity_of, pointer_to_mutex, pointer_to_thread, run_signature}
 use Rattle.vf_meaning.specs.Ghost.{Pointers, Anything, Numbered, GhostExpression, Function, PredicateValue, and_expression, no_expressions}
-use Rattle.vf_meaning.specs.Assertions.{ShareTree, Times, Is, Names, Wild, Named, Family, Both, Cell, Chunk, BodyName, Plain, Instance, BodyTree, ContractTree, Environment}
+use Rattle.vf_meaning.specs.Assertions.{ShareTree, Times, Is, Names, Wild, Named, Family, Both, Cell, Chunk, BodyName, Plain, Instance, BodyTree, PredicateTree, ContractTree, Environment}
 use Rattle.vf_rules.specs.Mutexes.{full, name, mutex_name, create_mutex_ghost_arg_name, ghost_arg_body}
 use Rattle.vf_rules.specs.Threads.{thread_run_pre, thread_run_post, thread_run_joinable, run_joinable}
 use Rattle.vf_safety.specs.Laws.{IsAcceptedProgram}
@@ -70,19 +70,41 @@ sharing_steps =
     ∷ Return (Some (core.Number (pos 7)))
     ∷ []
 
--- main of the example
-abbrev pub sharing_main : FunctionTree
-sharing_main = record {
-  identity = main_name;
-  signature = record { result = Integer types.Int; parameters = [] };
+-- What a program has beside the mutex, its struct, its predicates and the second thread: the locals and steps of main, further structs, further predicates with their bodies, and where a leak stands
+pub record Beside : Type 0 where
+  pub locals : List TypeTree
+  pub steps : List StepTree
+  pub structs : List StructTree
+  pub predicates : Identity → Option PredicateTree
+  pub bodies : Identity → Option BodyTree
+  pub leaks : Identity → ℕ → Bool
+
+-- main of such a program
+abbrev pub main_beside : Beside → FunctionTree
+main_beside beside = record { identity = main_name; signature = record { result = Integer types.Int; parameters = [] }; locals = beside.locals; steps = beside.steps; closing = somewhere }
+
+-- what the example has: no more
+abbrev pub alone : Beside
+alone = record {
   locals = PointerToStruct counter_name ∷ pointer_to_mutex ∷ pointer_to_thread ∷ [];
   steps = sharing_steps;
-  closing = somewhere;
+  structs = [];
+  predicates = λ q. None;
+  bodies = λ q. None;
+  leaks = λ g n. false;
 }
+
+-- main of the example
+abbrev pub sharing_main : FunctionTree
+sharing_main = main_beside alone
+
+-- a program with the second thread, beside other things
+abbrev pub program_beside : Beside → ProgramTree
+program_beside beside = record { functions = main_beside beside ∷ tick ∷ []; structs = record { identity = counter_name; fields = Integer types.Int ∷ pointer_to_mutex ∷ [] } ∷ beside.structs; main = 0 }
 
 -- the program of the example
 abbrev pub sharing_program : ProgramTree
-sharing_program = record { functions = sharing_main ∷ tick ∷ []; structs = record { identity = counter_name; fields = Integer types.Int ∷ pointer_to_mutex ∷ [] } ∷ []; main = 0 }
+sharing_program = program_beside alone
 
 -- the share one half
 abbrev pub half_share : ShareTree
@@ -115,23 +137,27 @@ tick_contract = record {
 }
 
 -- the bodies of the predicates and of the families' instances
-abbrev pub sharing_bodies : BodyName → Option BodyTree
-sharing_bodies (Plain q) = cond (same_identity q guarded_name) (Some guarded_body) (cond (same_identity q create_mutex_ghost_arg_name) (Some ghost_arg_body) None)
-sharing_bodies (Instance q g) = cond (same_identity g tick_name && same_identity q thread_run_pre) (Some shared_body) (cond (same_identity g tick_name && same_identity q thread_run_post) (Some shared_body) None)
+abbrev pub bodies_beside : Beside → BodyName → Option BodyTree
+bodies_beside beside (Plain q) = cond (same_identity q guarded_name) (Some guarded_body) (cond (same_identity q create_mutex_ghost_arg_name) (Some ghost_arg_body) (beside.bodies q))
+bodies_beside beside (Instance q g) = cond (same_identity g tick_name && same_identity q thread_run_pre) (Some shared_body) (cond (same_identity g tick_name && same_identity q thread_run_post) (Some shared_body) None)
 
 -- the function of the second thread claims the prelude's type of functions of threads that are joined
-abbrev pub sharing_environment : Environment
-sharing_environment = record {
+abbrev pub environment_beside : Beside → Environment
+environment_beside beside = record {
   constructors = λ c. None;
   fixpoints = [];
   claims = λ g t. same_identity g tick_name && same_identity t thread_run_joinable;
-  predicates = λ q. cond (same_identity q guarded_name) (Some (record { first = Pointers ∷ []; others = [] })) None;
-  bodies = sharing_bodies;
+  predicates = λ q. cond (same_identity q guarded_name) (Some (record { first = Pointers ∷ []; others = [] })) (beside.predicates q);
+  bodies = bodies_beside beside;
   functions = λ g. cond (same_identity g tick_name) (Some tick_contract) (Some box_contract);
   types = λ t. cond (same_identity t thread_run_joinable) (Some run_joinable) None;
   called = λ g n. None;
-  leaks = λ g n. false;
+  leaks = beside.leaks;
 }
+
+-- what is declared in the example
+abbrev pub sharing_environment : Environment
+sharing_environment = environment_beside alone
 
 -- the example is accepted
 abbrev pub SharingIsAccepted : Type 0
