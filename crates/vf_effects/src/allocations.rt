@@ -1,6 +1,6 @@
 //! Allocations.
 
-ghost use Rattle.std.specs.Prelude.{◌≡◌, ◌≢◌, ◌<◌, ◌≤◌, ℕ, List, map, replicate, Some, None, length, unsigned_abs, IfOk, OnOk, OnErr};
+ghost use Rattle.std.specs.Prelude.{◌≡◌, ◌≢◌, ◌<◌, ◌≤◌, ℕ, List, map, replicate, Some, None, length, unsigned_abs, IfOk, IsOk, OnOk, OnErr};
 ghost use Rattle.vf_tree.specs.Core.{Identity, ProgramTree};
 ghost use Rattle.vf_model.specs.Memory.{unset_cells, Mutex};
 ghost use Rattle.vf_core.specs.Shown.{program_of};
@@ -76,6 +76,7 @@ pub fn allocate(
     requires room { grant ≢ 0 → RoomForBlock running.old }
     ensures happened { OnOk result (Happened program.now.unit.names (program_of program.now.unit) running.old thread grant (effects.Allocate local structure next) running.new) }
     ensures unchanged { OnErr result ((names : List Identity) → StaysAs names running.old running.new) }
+    ensures outright { grant ≡ 0 → IsOk result }
 {
     if grant == 0 {
         let value = Value::Null;
@@ -102,6 +103,7 @@ pub fn allocate_ints(
     requires short { grant ≢ 0 → unsigned_abs count ≤ 4194304 }
     ensures happened { OnOk result ((names : List Identity) (p : ProgramTree) → Happened names p running.old thread grant (effects.AllocateInts local count next) running.new) }
     ensures unchanged { OnErr result ((names : List Identity) → StaysAs names running.old running.new) }
+    ensures outright { grant ≡ 0 → IsOk result }
 {
     if grant == 0 {
         let value = Value::Null;
@@ -131,6 +133,7 @@ pub fn create_mutex(
     requires room { grant ≢ 0 → RoomForBlock running.old }
     ensures happened { OnOk result ((names : List Identity) (p : ProgramTree) → Happened names p running.old thread grant (effects.CreateMutex target next) running.new) }
     ensures unchanged { OnErr result ((names : List Identity) → StaysAs names running.old running.new) }
+    ensures outright { grant ≡ 0 → IsOk result }
 {
     if grant == 0 {
         abort(running);

@@ -1,6 +1,6 @@
 //! Starts of threads.
 
-ghost use Rattle.std.specs.Prelude.{◌≡◌, ◌≢◌, ◌<◌, ◌++◌, ℕ, List, [], ◌∷◌, None, map, length, IfOk, OnOk, OnErr};
+ghost use Rattle.std.specs.Prelude.{◌≡◌, ◌≢◌, ◌<◌, ◌++◌, ℕ, List, [], ◌∷◌, None, map, length, IfOk, IsOk, OnOk, OnErr};
 ghost use Rattle.vf_tree.specs.Core.{Identity};
 ghost use Rattle.vf_model.specs.State.{entered};
 ghost use Rattle.vf_core.specs.Shown.{function_of, program_of};
@@ -75,6 +75,7 @@ pub fn start_joinable(
     requires few { grant ≢ 0 → length running.old.threads.items < 1024 }
     ensures happened { OnOk result (Happened program.now.unit.names (program_of program.now.unit) running.old thread grant (effects.StartJoinable number argument target next) running.new) }
     ensures unchanged { OnErr result ((names : List Identity) → StaysAs names running.old running.new) }
+    ensures outright { grant ≡ 0 → IsOk result }
 {
     let Some(function) = program.unit.functions.get(number) else {
         return Ok(());

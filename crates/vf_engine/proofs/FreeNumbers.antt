@@ -2,6 +2,7 @@
 use Rattle.std.proofs.Common.{◌≡◌, ℕ, zero, suc, ◌+◌, ◌<◌, ◌≤◌, true, false, cond, refl, sym, ap, subst, ◌∙◌, ⊎_elim, arith}
 use Rattle.std.specs.FinMap as map
 use Rattle.std.proofs.lemmas.Bool.{true≢false, cases_lt, cases_Bool, cond-true, cond-false}
+use Rattle.vf_model.proofs.FreeBlocks.{least_granted}
 use Rattle.vf_model.specs.Memory.{Memory, IsLeastFree, free_from, least_free, granted_block}
 
 -- there is one least free number
@@ -23,3 +24,11 @@ bounded (suc n) m k =
 -- the number that is granted for a taken one is at most one more than there are blocks
 pub granted_bound : (m : Memory) (g : ℕ) → map.contains_key m g ≡ true → granted_block m g ≤ 1 + map.len m
 granted_bound m g taken = subst (λ b. b ≤ 1 + map.len m) (sym (cond-true _ (least_free m) g taken)) (bounded (map.len m) m 1)
+
+-- there is a least free number, at most one more than there are blocks
+pub least_there : (m : Memory) (P : Type 0) → ((b : ℕ) → IsLeastFree m b → b ≤ 1 + map.len m → P) → P
+least_there m P found =
+    ⊎_elim
+    (λ taken. found (granted_block m 1) (least_granted m 1 taken) (granted_bound m 1 taken))
+    (λ free. found 1 (record { from_one = omega arith; free = free; least = λ k low high. absurd (omega (arith, low, high)) }) (omega arith))
+    (cases_Bool (map.contains_key m 1))

@@ -1,10 +1,10 @@
 -- Finite maps made of the entries of a map of the code.
-use Rattle.std.proofs.Common.{◌≡◌, ℕ, ◌+◌, length, add-one, subst, is_some, Bool, true, false, cond, List, [], ◌∷◌, map, Option, Some, None, refl, sym, ap, ◌∙◌}
+use Rattle.std.proofs.Common.{◌≡◌, ℕ, ◌+◌, ◌<◌, ◌≤◌, length, add-one, subst, is_some, IsSome, Bool, true, false, cond, List, [], ◌∷◌, map, Option, Some, None, refl, sym, ap, ◌∙◌, arith}
 use Rattle.std.specs.Option.{option_map}
 use Rattle.std.specs.FinMap as finite
 use Rattle.std.specs.FinMap.{FinMap, from_entries}
 use Rattle.std.specs.Ordering.{nat_cmp, eq_by_cmp, is_eq}
-use Rattle.std.specs.Cmp.{nat_cmp_total, eq_by_cmp_equiv}
+use Rattle.std.specs.Cmp.{nat_cmp_total, eq_by_cmp_equiv, unsigned_tied}
 use Rattle.std.specs.Map.{lookup, keys_of}
 use Rattle.std.specs.List.{AllByRecursion}
 use Rattle.std.specs.List.Sorted.{IsStrictlySortedBy}
@@ -12,7 +12,8 @@ use Rattle.std.specs.declared.cmp.Ordering.TheVariants.{Less}
 use Rattle.std.proofs.lemmas.List.{length-map}
 use Rattle.std.specs.BTreeMap as tree
 use Rattle.std.specs.BTreeMap.{BTreeMap}
-use Rattle.std.proofs.lemmas.Bool.{cond-true, cond-false}
+use Rattle.std.proofs.lemmas.Bool.{cond-true, cond-false, eqb-true}
+use Rattle.vf_engine.specs.Taken.{AreTaken}
 
 -- an entry with its value changed
 abbrev pub entry_by : {X Y : Type 0} → (X → Y) → ℕ × X → ℕ × Y
@@ -31,6 +32,14 @@ find_mapped f q (e ∷ es) =
 -- the value at a key is what the map of the code has there
 pub get_mapped : {X Y : Type 0} (f : X → Y) (m : BTreeMap ℕ X) (q : ℕ) → finite.get (from_entries {R = nat_cmp} (map (entry_by f) m.entries)) q ≡ option_map f (tree.get nat_cmp m q)
 get_mapped f m q = finite.get-from_entries nat_cmp_total (map (entry_by f) m.entries) q ∙ find_mapped f q m.entries
+
+some_mapped : {X Y : Type 0} (f : X → Y) (o : Option X) → is_some (option_map f o) ≡ is_some o
+some_mapped f None = refl
+some_mapped f (Some x) = refl
+
+-- the map has a key where the map of the code has it
+pub key_mapped : {X Y : Type 0} (f : X → Y) (m : BTreeMap ℕ X) (q : ℕ) → finite.contains_key (from_entries {R = nat_cmp} (map (entry_by f) m.entries)) q ≡ is_some (tree.get nat_cmp m q)
+key_mapped f m q = ap is_some (get_mapped f m q) ∙ some_mapped f (tree.get nat_cmp m q)
 
 mapped_cond : {X Y : Type 0} (f : X → Y) (b : Bool) (v o : Option X) → option_map f (cond b v o) ≡ cond b (option_map f v) (option_map f o)
 mapped_cond f true v o = refl
@@ -89,3 +98,25 @@ len_of_sorted (e ∷ es) h =
 pub len_mapped : {X Y : Type 0} (f : X → Y) (m : BTreeMap ℕ X) → tree.IsOrdered nat_cmp m → finite.len (from_entries {R = nat_cmp} (map (entry_by f) m.entries)) ≡ length m.entries
 len_mapped f m h =
     len_of_sorted (map (entry_by f) m.entries) (subst (IsStrictlySortedBy nat_cmp) (sym (keys_mapped f m.entries)) h) ∙ length-map m.entries (entry_by f)
+
+-- a number below which all are taken, where a block is put at a key
+pub taken_with : {X : Type 0} (m n : BTreeMap ℕ X) (k : ℕ) (v : X) (least : ℕ)
+    → ((q : ℕ) → tree.get nat_cmp n q ≡ cond (is_eq (nat_cmp k q)) (Some v) (tree.get nat_cmp m q)) → AreTaken m least → AreTaken n least
+taken_with m n k v least h taken q low high =
+    elim (is_eq (nat_cmp k q)) as (λ b. tree.get nat_cmp n q ≡ cond b (Some v) (tree.get nat_cmp m q) → IsSome (tree.get nat_cmp n q)) [
+      | true ↦ λ is. ap is_some is
+      | false ↦ λ is. ap is_some is ∙ taken q low high
+    ] (h q)
+
+-- the same where a key that is not below it is taken out
+pub taken_without : {X : Type 0} (m n : BTreeMap ℕ X) (k : ℕ) (least : ℕ)
+    → ((q : ℕ) → tree.get nat_cmp n q ≡ cond (is_eq (nat_cmp k q)) None (tree.get nat_cmp m q)) → (1 ≤ k → least ≤ k) → AreTaken m least → AreTaken n least
+taken_without m n k least h apart taken q low high =
+    elim (is_eq (nat_cmp k q)) as (λ b. is_eq (nat_cmp k q) ≡ b → tree.get nat_cmp n q ≡ cond b None (tree.get nat_cmp m q) → IsSome (tree.get nat_cmp n q)) [
+      | true ↦ λ same is. let e : k ≡ q = eqb-true k q (sym (unsigned_tied k q) ∙ same) in let far = apart (subst (λ n. 1 ≤ n) (sym e) low) in absurd (omega (arith, e, low, high, far))
+      | false ↦ λ same is. ap is_some is ∙ taken q low high
+    ] refl (h q)
+
+-- the same for a number that is not greater
+pub taken_below : {X : Type 0} (m : BTreeMap ℕ X) (a b : ℕ) → a ≤ b → AreTaken m b → AreTaken m a
+taken_below m a b less taken k low high = taken k low (omega (arith, less, high))

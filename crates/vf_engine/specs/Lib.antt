@@ -1,5 +1,6 @@
 pub mod Values
 pub mod Evaluated
+pub mod Taken
 pub mod Memories
 pub mod Cells
 pub mod States

@@ -1,14 +1,15 @@
 //! Blocks, by their numbers.
 
-ghost use Rattle.std.specs.Prelude.{◌≡◌, ◌<◌, not, List, [], Some, IsSome, IfOk, OnOk, OnErr, slice_set};
+ghost use Rattle.std.specs.Prelude.{◌≡◌, ◌≤◌, ◌<◌, not, List, [], Some, IsSome, IfOk, OnOk, OnErr};
 ghost use Rattle.std.specs.Option.{option_map, option_copied};
 ghost use Rattle.std.specs.FinMap as finite;
 ghost use Rattle.vf_tree.specs.Core.{Identity};
-ghost use Rattle.vf_model.specs.Memory.{block_at, pointed_at, written, granted_block};
-ghost use Rattle.vf_engine.specs.Values.{value_of, cells_of};
-ghost use Rattle.vf_engine.specs.Memories.{block_of, memory_of, set_in};
+ghost use Rattle.vf_model.specs.Memory.{block_at, pointed_at, written, granted_block, IsLeastFree};
+ghost use Rattle.vf_engine.specs.Values.{value_of};
+ghost use Rattle.vf_engine.specs.Taken.{AreTaken};
 
 use crate::value::Value;
+use crate::writing::set_cell;
 use std::alloc::Global;
 use std::collections::BTreeMap;
 use vf_base::Memory;
@@ -34,19 +35,26 @@ pub enum Block {
     },
 }
 
-/// The allocated blocks.
+/// The allocated blocks, and a number below which none is free: where the search for the least free
+/// number begins.
 #[derive(Debug, Drop)]
 pub struct Blocks {
     pub map: BTreeMap<u32, Block>,
+    pub(crate) least: u32,
+    ghost from_one: { 1 ≤ least },
+    ghost taken: { AreTaken map least },
 }
 
 impl Blocks {
+    ghost use Rattle.vf_engine.specs.Memories.{block_of, memory_of};
+
     /// No blocks.
     pub fn new(alloc: Global) -> Blocks
         ensures { (names : List Identity) → memory_of names result ≡ finite.empty }
     {
         Blocks {
             map: BTreeMap::new(alloc),
+            least: 1,
         }
     }
 
@@ -90,21 +98,33 @@ impl Blocks {
         !self.map.contains_key(&number)
     }
 
-    /// The number of the block that a grant other than 0 gives: the wanted one where it is free, else
-    /// the least free from 1 on.
-    fn granted(&self, grant: u32) -> u32
+    /// The least free number from 1 on.
+    fn least_free(&self) -> u32
         requires { (names : List Identity) → finite.len (memory_of names self.now) < 1048576 }
-        ensures { (names : List Identity) → result ≡ granted_block (memory_of names self.now) grant }
+        ensures least { (names : List Identity) → IsLeastFree (memory_of names self.now) result }
+        ensures taken { AreTaken self.now.map result }
     {
-        if self.is_free(grant) {
-            return grant;
-        }
-        for number in 1..u32::MAX {
+        for number in self.least..u32::MAX {
             if self.is_free(number) {
                 return number;
             }
         }
         unreachable!()
+    }
+
+    /// The number of the block that a grant other than 0 gives: the wanted one where it is free, else
+    /// the least free from 1 on, where the next search begins.
+    fn granted(&mut self, grant: u32) -> u32
+        requires { (names : List Identity) → finite.len (memory_of names self.old) < 1048576 }
+        ensures number { (names : List Identity) → result ≡ granted_block (memory_of names self.old) grant }
+        ensures unchanged { (names : List Identity) → memory_of names self.new ≡ memory_of names self.old }
+    {
+        if self.is_free(grant) {
+            return grant;
+        }
+        let number = self.least_free();
+        self.least = number;
+        number
     }
 
     /// Puts a block at the number that a grant other than 0 gives.
@@ -124,6 +144,9 @@ impl Blocks {
         ensures { (names : List Identity) → memory_of names self.new ≡ finite.remove (memory_of names self.old) number }
     {
         let _old = self.map.remove(&number);
+        if 0 < number && number < self.least {
+            self.least = number;
+        }
     }
 
     /// Puts another block in the place of one.
@@ -143,28 +166,5 @@ impl Blocks {
         if let Some(block) = self.map.get_mut(&number) {
             set_cell(block, index, value);
         }
-    }
-}
-
-/// Writes a cell of a block, where it is there.
-fn set_cell(block: &mut Block, index: usize, value: Value)
-    ensures { (names : List Identity) → block_of names block.new ≡ set_in (block_of names block.old) index (value_of names value) }
-{
-    match block {
-        Block::Struct {
-            structure: _,
-            cells,
-        } => set_at(cells, index, value),
-        Block::Ints(cells) => set_at(cells, index, value),
-        Block::Mutex(_) | Block::Handle { .. } => {}
-    }
-}
-
-/// Writes a value at an index, where it is there.
-pub fn set_at(cells: &mut Vec<Option<Value>>, index: usize, value: Value)
-    ensures { (names : List Identity) → cells_of names cells.new.items ≡ slice_set (cells_of names cells.old.items) index (Some (value_of names value)) }
-{
-    if index < cells.len() {
-        cells[index] = Some(value);
     }
 }

@@ -16,9 +16,10 @@ mod step;
 mod threads;
 mod value;
 mod words;
+mod writing;
 
 pub use apply::{go, remove, store};
-pub use blocks::{Block, Blocks, set_at};
+pub use blocks::{Block, Blocks};
 pub use cell::Cell;
 pub use effect::Effect;
 pub use expressions::{Trouble, evaluate};
@@ -28,3 +29,4 @@ pub use step::effect_in;
 pub use threads::{Change, change_at, enter_at, leave_at};
 pub use value::{Value, number_of, same_value};
 pub use words::{Limit, StepFault, Stepped};
+pub use writing::set_at;

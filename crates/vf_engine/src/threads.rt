@@ -10,9 +10,9 @@ ghost use Rattle.vf_engine.specs.Changes.{changed, frames_after};
 ghost use Rattle.vf_engine.specs.declared.state.Frame as declared_frame;
 ghost use Rattle.vf_engine.specs.declared.state.Thread as declared_thread;
 
-use crate::blocks::set_at;
 use crate::state::{Frame, Thread};
 use crate::value::Value;
+use crate::writing::set_at;
 use vf_base::Memory;
 
 /// The frame goes on at a step.

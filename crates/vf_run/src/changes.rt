@@ -110,69 +110,26 @@ pub fn counts_after(
     let there = running.blocks.len();
     let started = running.threads.len();
     match effect {
-        Effect::Goto { next: _ } => counts,
-        Effect::Set {
-            local: _,
-            value: _,
-            next: _,
-        } => counts,
-        Effect::Load {
-            local: _,
-            value: _,
-            cell: _,
-            place: _,
-            next: _,
-        } => counts,
-        Effect::Store {
-            cell: _,
-            value: _,
-            place: _,
-            next: _,
-        } => counts,
+        Effect::Goto { .. } => counts,
+        Effect::Set { .. } => counts,
+        Effect::Load { .. } => counts,
+        Effect::Store { .. } => counts,
         Effect::Abort => counts,
-        Effect::PutChar {
-            byte: _,
-            target: _,
-            next: _,
-        } => counts,
-        Effect::PrintInt { number: _, next: _ } => counts,
+        Effect::PutChar { .. } => counts,
+        Effect::PrintInt { .. } => counts,
         Effect::Wait => counts,
-        Effect::Allocate {
-            local: _,
-            structure: _,
-            next: _,
-        } => granted_block(there, counts, grant, 0),
-        Effect::CreateMutex { target: _, next: _ } => granted_block(there, counts, grant, 0),
-        Effect::AllocateInts {
-            local: _,
-            length,
-            next: _,
-        } => granted_block(there, counts, grant, length.unsigned_abs()),
-        Effect::Free {
-            block,
-            place: _,
-            next: _,
-        } => one_block_less(&running.blocks, counts, block),
-        Effect::Remove { block, next: _ } => one_block_less(&running.blocks, counts, block),
-        Effect::Acquire { block, next: _ } => mutex_at(&running.blocks, counts, block),
-        Effect::Release { block, next: _ } => mutex_at(&running.blocks, counts, block),
-        Effect::Enter {
-            function: _,
-            target: _,
-            arguments: _,
-            next: _,
-        } => one_frame_more(counts),
+        Effect::Allocate { .. } => granted_block(there, counts, grant, 0),
+        Effect::CreateMutex { .. } => granted_block(there, counts, grant, 0),
+        Effect::AllocateInts { length, .. } => {
+            granted_block(there, counts, grant, length.unsigned_abs())
+        }
+        Effect::Free { block, .. } => one_block_less(&running.blocks, counts, block),
+        Effect::Remove { block, .. } => one_block_less(&running.blocks, counts, block),
+        Effect::Acquire { block, .. } => mutex_at(&running.blocks, counts, block),
+        Effect::Release { block, .. } => mutex_at(&running.blocks, counts, block),
+        Effect::Enter { .. } => one_frame_more(counts),
         Effect::Return(_) => one_frame_less(counts),
-        Effect::Start {
-            run: _,
-            argument: _,
-            next: _,
-        } => one_thread_more(started, counts),
-        Effect::StartJoinable {
-            run: _,
-            argument: _,
-            target: _,
-            next: _,
-        } => granted_thread(there, started, counts, grant),
+        Effect::Start { .. } => one_thread_more(started, counts),
+        Effect::StartJoinable { .. } => granted_thread(there, started, counts, grant),
     }
 }

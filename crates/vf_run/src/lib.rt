@@ -9,6 +9,7 @@
 mod acting;
 mod changes;
 mod counts;
+mod laws;
 mod machine;
 mod opening;
 mod stepping;
@@ -17,6 +18,7 @@ mod tests;
 
 pub use acting::next_effect;
 pub use counts::Counts;
+pub use laws::quiet_steps_make_nothing;
 pub use machine::Machine;
 pub use vf_core::{Program, Unit, assemble_unit};
 pub use vf_engine::{Limit, StepFault, Stepped};

@@ -1,6 +1,6 @@
 //! Machines.
 
-ghost use Rattle.std.specs.Prelude.{◌≡◌, None, Some, Err, IfOk, OnOk, OnErr, slice_get};
+ghost use Rattle.std.specs.Prelude.{◌≡◌, None, Some, Err, IfOk, IsOk, OnOk, OnErr, slice_get};
 ghost use Rattle.vf_model.specs.Runs.{after, main_frames, opening, outcome_of};
 ghost use Rattle.vf_core.specs.Shown.{program_of};
 ghost use Rattle.vf_engine.specs.States.{state_of};
@@ -32,6 +32,7 @@ impl Machine {
     ghost use Rattle.vf_engine.specs.declared.words.StepFault.TheVariants as faults;
     ghost use Rattle.vf_run.specs.Acting.{Answers};
     ghost use Rattle.vf_run.specs.Machines.{machine_program, machine_state};
+    ghost use Rattle.vf_run.specs.Making.{MakesNothing};
 
     /// The machine in the opening state of a program's runs.
     pub fn start(alloc: Global, program: Program) -> Result<Machine, Memory>
@@ -46,7 +47,17 @@ impl Machine {
         })
     }
 
-    /// One event.
+    /// Makes ready for that many steps that make nothing. Such a step takes no memory at any time, so
+    /// there is nothing to do.
+    pub fn reserve_turn(&mut self, _steps: u32) -> Result<(), Memory>
+        ensures program { machine_program self.new ≡ machine_program self.old }
+        ensures state { machine_state self.new ≡ machine_state self.old }
+        ensures outright { IsOk result }
+    {
+        Ok(())
+    }
+
+    /// One event. An event that makes nothing takes no memory, and is taken outright.
     pub fn step(&mut self, e: Event) -> Result<Stepped, StepFault>
         ensures program { machine_program self.new ≡ machine_program self.old }
         ensures after { OnOk result (machine_state self.new ≡ after (machine_program self.old) (machine_state self.old) e) }
@@ -54,6 +65,7 @@ impl Machine {
         ensures answer { Answers (machine_program self.old) (machine_state self.old) e.thread result }
         ensures capacity { (limit : declared_limit.Limit) → result ≡ Err (faults.Capacity limit) → first_passed (after (machine_program self.old) (machine_state self.old) e) ≡ Some limit }
         ensures full { (limit : declared_limit.Limit) → first_passed (after (machine_program self.old) (machine_state self.old) e) ≡ Some limit → result ≡ Err (faults.Capacity limit) }
+        ensures outright { MakesNothing (machine_program self.old) (machine_state self.old) e → IsOk result }
     {
         let (stepped, counts) = take_event(&self.program, &mut self.running, self.counts, e)?;
         self.counts = counts;

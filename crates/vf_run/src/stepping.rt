@@ -1,6 +1,6 @@
 //! One event.
 
-ghost use Rattle.std.specs.Prelude.{◌≡◌, true, None, Some, Ok, Err, IfOk, OnOk, OnErr};
+ghost use Rattle.std.specs.Prelude.{◌≡◌, true, None, Some, Ok, Err, IfOk, IsOk, OnOk, OnErr};
 ghost use Rattle.vf_model.specs.Runs.{after, can_step};
 ghost use Rattle.vf_core.specs.Shown.{program_of};
 ghost use Rattle.vf_engine.specs.States.{state_of};
@@ -9,6 +9,7 @@ ghost use Rattle.vf_engine.specs.declared.words.StepFault.TheVariants as faults;
 ghost use Rattle.vf_effects.specs.Becoming.{StaysAs};
 ghost use Rattle.vf_run.specs.Acting.{IsKnown, InFrame, Acts, IsAnswer};
 ghost use Rattle.vf_run.specs.Counts.{HasCounts, Within, first_passed};
+ghost use Rattle.vf_run.specs.Making.{MakesNothing};
 
 use crate::acting::{is_waiting, next_effect};
 use crate::changes::counts_after;
@@ -38,6 +39,7 @@ fn advance(
     ensures within { IfOk result (λ new. Within new) }
     ensures capacity { (limit : declared_limit.Limit) → result ≡ Err (faults.Capacity limit) → first_passed (after (program_of program.now.unit) (state_of program.now.unit.names running.old) e) ≡ Some limit }
     ensures full { (limit : declared_limit.Limit) → first_passed (after (program_of program.now.unit) (state_of program.now.unit.names running.old) e) ≡ Some limit → result ≡ Err (faults.Capacity limit) }
+    ensures outright { MakesNothing (program_of program.now.unit) (state_of program.now.unit.names running.old) e → IsOk result }
 {
     let new = counts_after(program, running, counts, e.grant, effect);
     match passed_limit(new) {
@@ -70,6 +72,7 @@ fn take_step(
     ensures could { OnErr result (can_step (program_of program.now.unit) (state_of program.now.unit.names running.old) e.thread ≡ true) }
     ensures capacity { (limit : declared_limit.Limit) → result ≡ Err (faults.Capacity limit) → first_passed (after (program_of program.now.unit) (state_of program.now.unit.names running.old) e) ≡ Some limit }
     ensures full { (limit : declared_limit.Limit) → first_passed (after (program_of program.now.unit) (state_of program.now.unit.names running.old) e) ≡ Some limit → result ≡ Err (faults.Capacity limit) }
+    ensures outright { MakesNothing (program_of program.now.unit) (state_of program.now.unit.names running.old) e → IsOk result }
 {
     let found = next_effect(program, running, e.thread);
     if is_waiting(&found) {
@@ -104,6 +107,7 @@ pub fn take_event(
     ensures could { OnErr result (can_step (program_of program.now.unit) (state_of program.now.unit.names running.old) e.thread ≡ true) }
     ensures capacity { (limit : declared_limit.Limit) → result ≡ Err (faults.Capacity limit) → first_passed (after (program_of program.now.unit) (state_of program.now.unit.names running.old) e) ≡ Some limit }
     ensures full { (limit : declared_limit.Limit) → first_passed (after (program_of program.now.unit) (state_of program.now.unit.names running.old) e) ≡ Some limit → result ≡ Err (faults.Capacity limit) }
+    ensures outright { MakesNothing (program_of program.now.unit) (state_of program.now.unit.names running.old) e → IsOk result }
 {
     match running.end {
         Some(_) => Ok((Stepped::Ended, counts)),
