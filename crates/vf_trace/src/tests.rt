@@ -7,9 +7,9 @@ use vf_base::{IntType, Memory, Place, Sequence, Text};
 use vf_core::{
     CoreStep, Expression, Field, Function, Name, Scalar, Signature, Unit, assemble_unit,
 };
+use vf_events::Schedule;
 use vf_model::{Event, FaultKind};
 use vf_run::Machine;
-use vf_schedule::Schedule;
 
 const STRUCTURE: Name = Name { number: 2 };
 
