@@ -109,6 +109,7 @@ fn prints_a_negative_number_and_returns(rt: HostRuntime) -> Result<(), Fail> {
         grant: 1,
     };
     assert_eq!(rt; machine.outcome(), Outcome::Running);
+    machine.reserve_turn(1)?;
     assert_eq!(rt; machine.step(turn), Ok(Stepped::Moved));
     assert_eq!(rt; machine.step(turn), Ok(Stepped::Moved));
     assert_eq!(rt; machine.output(), b"-7\n".as_slice());

@@ -53,8 +53,8 @@ fn stops_at_the_last_block(rt: HostRuntime) -> Result<(), Fail> {
         next: 0,
     };
     let mut machine = main_of(rt.alloc(), allocate)?;
-    for grant in 1..1_048_577 {
-        assert_eq!(rt; machine.step(event(0, grant)), Ok(Stepped::Moved));
+    for _block in 0..1_048_576 {
+        assert_eq!(rt; machine.step(event(0, 1)), Ok(Stepped::Moved));
     }
     let full = Err(StepFault::Capacity(Limit::Blocks));
     assert_eq!(rt; machine.step(event(0, 2_000_000)), full);
