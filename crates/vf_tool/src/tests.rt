@@ -103,6 +103,12 @@ fn answers(rt: HostRuntime) -> Result<(), Fail> {
             Status::Done,
             "a.c: accepted\nlinked\nrunning\n",
         ),
+        call(
+            "[ 0, [0, 5],\n 0 ]\n",
+            ONE,
+            Status::Done,
+            "a.c: accepted\nlinked\nreturned 7\n",
+        ),
         call(FIVE, TWO, Status::Refused, "a.c:3:13: rule 24 pure\n"),
         call(FIVE, THREE, Status::Refused, "a.c:6:9: rule 20 range\n"),
         call(
@@ -144,6 +150,11 @@ fn stops(rt: HostRuntime) -> Result<(), Fail> {
         Case {
             status: Status::Unreadable,
             schedule: Some("[0,1.5]"),
+            ..told
+        },
+        Case {
+            status: Status::Unreadable,
+            schedule: Some("[1024]"),
             ..told
         },
         Case {
