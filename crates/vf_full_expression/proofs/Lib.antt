@@ -1,0 +1,10 @@
+pub mod Same
+pub mod Fronts
+pub mod Taken
+pub mod TypesFull
+pub mod Eaten
+pub mod Begins
+pub mod Behind
+pub mod Items
+pub mod ExprFull
+pub mod OneReading
