@@ -1,5 +1,5 @@
 -- What expressions begin with, and that no expression between parentheses begins as a cast does.
-use Rattle.std.proofs.Common.{◌≡◌, ◌≤◌, Bool, true, false, ◌&&◌, List, [], ◌∷◌, Some, refl, sym, subst, ap, ◌∙◌, arith}
+use Rattle.std.proofs.Common.{◌≡◌, ◌≤◌, ◌<◌, ◌⊎◌, Bool, true, false, ◌&&◌, List, [], ◌∷◌, Some, refl, sym, subst, ap, ◌∙◌, inl, inr, arith}
 use Rattle.std.proofs.lemmas.Bool.{leb-true}
 use Rattle.vf_base.specs.declared.place.Place.{Place}
 use Rattle.vf_lexer.specs.declared.punctuator.Punctuator.{Punctuator}
@@ -132,11 +132,10 @@ unclosed a_name h = refl
 unclosed a_number h = refl
 unclosed a_character h = refl
 
--- a name with a star and a closing parenthesis behind it
-record Lone (t u : Token) (us : List Token) : Type 0 where
+-- a name with a star behind it
+record Lone (t u : Token) : Type 0 where
   named : is_name Real t ≡ true
   starred : is_mark Real punctuators.Star u ≡ true
-  closed : head_has (is_mark Real punctuators.CloseParenthesis) us ≡ true
 
 -- two tests can't be both
 apart : {Y : Type 0} {b : Bool} → b ≡ true → b ≡ false → Y
@@ -178,63 +177,70 @@ links_apart l (more_link (tree.link p o a) xs) u us rest k c h =
 nameless : {Y : Type 0} (c : Class) (t : Token) (us : List Token) → Front Real c (t ∷ us) → is_name Real t ≡ true → class_name c ≡ false → Y
 nameless c t us f h k = apart h (f.names_are ∙ k)
 
--- an expression that begins with such a name is that name alone
-lone : (x : ExprTree) (t u : Token) (us rest : List Token) → Lone t u us → expr x (t ∷ u ∷ us) ≡ Some rest → rest ≡ u ∷ us
-lone (tree.name_ p x) t u us rest l h =
+loosely : (x : ExprTree) {P : Type 0} → (rank x ≤ 1) ⊎ P → 1 < rank x → P
+loosely x (inl h) k = absurd (omega (arith, h, k))
+loosely x (inr c) k = c
+
+-- an expression that begins with such a name is that name alone, where it holds together closely or a closing parenthesis stands behind the star
+lone : (x : ExprTree) (t u : Token) (us rest : List Token) → Lone t u → (rank x ≤ 1) ⊎ (head_has (is_mark Real punctuators.CloseParenthesis) us ≡ true) → expr x (t ∷ u ∷ us) ≡ Some rest → rest ≡ u ∷ us
+lone (tree.name_ p x) t u us rest l k h =
     let g = gone (at p (t ∷ u ∷ us)) h in
-    let k = identifier_took Real x g.0 rest g.2 in
-    let same : t ∷ u ∷ us ≡ k.token ∷ rest = at_stays p (t ∷ u ∷ us) g.0 g.1 ∙ k.parts in
+    let n = identifier_took Real x g.0 rest g.2 in
+    let same : t ∷ u ∷ us ≡ n.token ∷ rest = at_stays p (t ∷ u ∷ us) g.0 g.1 ∙ n.parts in
     sym (ap after same)
-lone (tree.number p n ty) t u us rest l h =
+lone (tree.number p n ty) t u us rest l k h =
     let g = gone (at p (t ∷ u ∷ us)) h in
     nameless a_number t (u ∷ us) (behind p g.1 (number_front Real n ty g.0 rest g.2)) l.named refl
-lone (tree.character p n) t u us rest l h =
+lone (tree.character p n) t u us rest l k h =
     let g = gone (at p (t ∷ u ∷ us)) h in
     nameless a_character t (u ∷ us) (behind p g.1 (character_front n g.0 rest g.2)) l.named refl
-lone (tree.true_ p) t u us rest l h =
+lone (tree.true_ p) t u us rest l k h =
     let g = gone (at p (t ∷ u ∷ us)) h in
     nameless (a_word keywords.True) t (u ∷ us) (behind p g.1 (word_front Real _ g.0 rest g.2)) l.named refl
-lone (tree.false_ p) t u us rest l h =
+lone (tree.false_ p) t u us rest l k h =
     let g = gone (at p (t ∷ u ∷ us)) h in
     nameless (a_word keywords.False) t (u ∷ us) (behind p g.1 (word_front Real _ g.0 rest g.2)) l.named refl
-lone (tree.parenthesized p a) t u us rest l h =
+lone (tree.parenthesized p a) t u us rest l k h =
     let g = gone (at p (t ∷ u ∷ us)) h in let m = gone (mark Real punctuators.OpenParenthesis g.0) g.2 in
     nameless (a_mark punctuators.OpenParenthesis) t (u ∷ us) (behind p g.1 (mark_front Real _ g.0 m.0 m.1)) l.named refl
-lone (tree.malloc p tag) t u us rest l h =
+lone (tree.malloc p tag) t u us rest l k h =
     let g = gone (at p (t ∷ u ∷ us)) h in let m = gone (word Real keywords.Malloc g.0) g.2 in
     nameless (a_word keywords.Malloc) t (u ∷ us) (behind p g.1 (word_front Real _ g.0 m.0 m.1)) l.named refl
-lone (tree.malloc_ints p n star) t u us rest l h =
+lone (tree.malloc_ints p n star) t u us rest l k h =
     let g = gone (at p (t ∷ u ∷ us)) h in let m = gone (word Real keywords.Malloc g.0) g.2 in
     nameless (a_word keywords.Malloc) t (u ∷ us) (behind p g.1 (word_front Real _ g.0 m.0 m.1)) l.named refl
-lone (tree.unary p o a) t u us rest l h =
+lone (tree.unary p o a) t u us rest l k h =
     let g = gone (at p (t ∷ u ∷ us)) h in let m = gone (mark Real (unary_mark o) g.0) g.2 in
     nameless (a_mark (unary_mark o)) t (u ∷ us) (behind p g.1 (mark_front Real _ g.0 m.0 m.1)) l.named refl
-lone (tree.cast p q a) t u us rest l h =
+lone (tree.cast p q a) t u us rest l k h =
     let g = gone (at p (t ∷ u ∷ us)) h in let m = gone (mark Real punctuators.OpenParenthesis g.0) g.2 in
     nameless (a_mark punctuators.OpenParenthesis) t (u ∷ us) (behind p g.1 (mark_front Real _ g.0 m.0 m.1)) l.named refl
-lone (tree.postfix p a parts) t u us rest l h =
+lone (tree.postfix p a parts) t u us rest l k h =
     let g = gone (at p (t ∷ u ∷ us)) h in
     let q = gone (provided (is_within 0 a && has_parts parts) g.0) g.2 in
     let w = met _ g.0 q.0 q.1 in
     let m = gone (expr a q.0) q.2 in
     let same : t ∷ u ∷ us ≡ q.0 = at_stays p (t ∷ u ∷ us) g.0 g.1 ∙ w.1 in
-    let inner = lone a t u us m.0 l (subst (λ vs. expr a vs ≡ Some m.0) (sym same) m.1) in
+    let within : rank a ≤ 0 = leb-true (rank a) 0 (both _ _ w.0).0 in
+    let inner = lone a t u us m.0 l (inl (omega (arith, within))) (subst (λ vs. expr a vs ≡ Some m.0) (sym same) m.1) in
     parts_apart parts u us rest (both _ _ w.0).1 l.starred (subst (λ vs. postfixes parts vs ≡ Some rest) inner m.2)
-lone (tree.chain p k a xs) t u us rest l h =
+lone (tree.chain p v a xs) t u us rest l k h =
     let g = gone (at p (t ∷ u ∷ us)) h in
-    let q = gone (provided (is_operand k a && has_links xs) g.0) g.2 in
+    let q = gone (provided (is_operand v a && has_links xs) g.0) g.2 in
     let w = met _ g.0 q.0 q.1 in
     let m = gone (expr a q.0) q.2 in
     let same : t ∷ u ∷ us ≡ q.0 = at_stays p (t ∷ u ∷ us) g.0 g.1 ∙ w.1 in
-    let inner = lone a t u us m.0 l (subst (λ vs. expr a vs ≡ Some m.0) (sym same) m.1) in
-    links_apart k xs u us rest (both _ _ w.0).1 l.closed (subst (λ vs. links k xs vs ≡ Some rest) inner m.2)
-lone (tree.conditional p c a b) t u us rest l h =
+    let close : head_has (is_mark Real punctuators.CloseParenthesis) us ≡ true = loosely (tree.chain p v a xs) k (omega (arith, loose v)) in
+    let inner = lone a t u us m.0 l (inr close) (subst (λ vs. expr a vs ≡ Some m.0) (sym same) m.1) in
+    links_apart v xs u us rest (both _ _ w.0).1 close (subst (λ vs. links v xs vs ≡ Some rest) inner m.2)
+lone (tree.conditional p c a b) t u us rest l k h =
     let g = gone (at p (t ∷ u ∷ us)) h in
     let q = gone (provided (is_within 8 c) g.0) g.2 in
     let w = met _ g.0 q.0 q.1 in
     let m = gone (expr c q.0) q.2 in
     let same : t ∷ u ∷ us ≡ q.0 = at_stays p (t ∷ u ∷ us) g.0 g.1 ∙ w.1 in
-    let inner = lone c t u us m.0 l (subst (λ vs. expr c vs ≡ Some m.0) (sym same) m.1) in
+    let close : head_has (is_mark Real punctuators.CloseParenthesis) us ≡ true = loosely (tree.conditional p c a b) k (omega arith) in
+    let inner = lone c t u us m.0 l (inr close) (subst (λ vs. expr c vs ≡ Some m.0) (sym same) m.1) in
     let n = gone (mark Real punctuators.Question m.0) m.2 in
     starless punctuators.Question u us n.0 refl l.starred (subst (λ vs. mark Real punctuators.Question vs ≡ Some n.0) inner n.1)
 
@@ -259,7 +265,7 @@ no_cast_type x ts rest h f = rw (no_type x ts rest h) (by_parts ts h)
   where
     three : (t u : Token) (us : List Token) → expr x (t ∷ u ∷ us) ≡ Some rest → (a b c : Bool) → is_name Real t ≡ a → is_mark Real punctuators.Star u ≡ b → head_has (is_mark Real punctuators.CloseParenthesis) us ≡ c → (a && (b && c)) ≡ false
     three t u us h true true true i j k =
-        let same = lone x t u us rest (record { named = i; starred = j; closed = k }) h in
+        let same = lone x t u us rest (record { named = i; starred = j }) (inr k) h in
         apart j (subst (λ vs. head_has (is_mark Real punctuators.Star) vs ≡ false) same (f.marks_are punctuators.Star))
     three t u us h true true false i j k = refl
     three t u us h true false c i j k = refl
@@ -317,3 +323,20 @@ uncast (tree.unary p o a) ts rest h c = absurd (omega (arith, c))
 uncast (tree.cast p t a) ts rest h c = absurd (omega (arith, c))
 uncast (tree.chain p l a xs) ts rest h c = absurd (omega (arith, c, loose l))
 uncast (tree.conditional p k a b) ts rest h c = absurd (omega (arith, c))
+
+-- no `*` stands behind the first word of what holds together closely, where none stands behind the whole
+pub unstarred : (x : ExprTree) (ts rest : List Token) → expr x ts ≡ Some rest → rank x ≤ 1 → head_has (is_mark Real punctuators.Star) rest ≡ false → (head_has (is_name Real) ts && head_has (is_mark Real punctuators.Star) (after ts)) ≡ false
+unstarred x [] rest h low f = refl
+unstarred x (t ∷ []) rest h low f = right (is_name Real t)
+  where
+    right : (a : Bool) → (a && false) ≡ false
+    right true = refl
+    right false = refl
+unstarred x (t ∷ u ∷ us) rest h low f = by_tests (is_name Real t) (is_mark Real punctuators.Star u) refl refl
+  where
+    by_tests : (a b : Bool) → is_name Real t ≡ a → is_mark Real punctuators.Star u ≡ b → (a && b) ≡ false
+    by_tests true true i j =
+        let same = lone x t u us rest (record { named = i; starred = j }) (inl low) h in
+        apart j (subst (λ vs. head_has (is_mark Real punctuators.Star) vs ≡ false) same f)
+    by_tests true false i j = refl
+    by_tests false b i j = refl

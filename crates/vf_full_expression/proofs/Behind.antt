@@ -227,3 +227,11 @@ partless_mark (Some p) h = omega arith
 
 pub partless : (ts : List Token) → head_has is_part ts ≡ false → Looser 1 ts
 partless ts h = partless_mark (next_mark Real ts) (sym (part_tells ts) ∙ h)
+
+no_star_mark : (o : Option Punctuator) → 3 < hold o → same_mark punctuators.Star o ≡ false
+no_star_mark None h = refl
+no_star_mark (Some punctuators.Star) h = absurd (omega (arith, h))
+no_star_mark (Some p) h = refl
+
+pub no_star : (ts : List Token) → Looser 3 ts → head_has (is_mark Real punctuators.Star) ts ≡ false
+no_star ts h = next_tells Real punctuators.Star ts ∙ no_star_mark (next_mark Real ts) h
