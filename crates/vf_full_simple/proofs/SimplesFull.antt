@@ -118,7 +118,7 @@ step_hold steps.Increment = omega arith
 step_hold steps.Decrement = omega arith
 
 -- a left side holds together closely
-left_close : (x : ExprTree) → is_left_side x ≡ true → rank x ≤ 1
+pub left_close : (x : ExprTree) → is_left_side x ≡ true → rank x ≤ 1
 left_close (tree.number p n ty) h = no_true h
 left_close (tree.character p n) h = no_true h
 left_close (tree.true_ p) h = no_true h
@@ -134,7 +134,7 @@ left_close (tree.chain p l a xs) h = no_true h
 left_close (tree.conditional p c a b) h = no_true h
 
 -- a call holds together closely
-call_close : (x : ExprTree) → is_call x ≡ true → rank x ≤ 1
+pub call_close : (x : ExprTree) → is_call x ≡ true → rank x ≤ 1
 call_close (tree.number p n ty) h = no_true h
 call_close (tree.character p n) h = no_true h
 call_close (tree.true_ p) h = no_true h

@@ -1,0 +1,4 @@
+pub mod GhostEaten
+pub mod Begins
+pub mod Parts
+pub mod StmtFull
