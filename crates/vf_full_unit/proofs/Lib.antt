@@ -1,0 +1,4 @@
+pub mod Answered
+pub mod GhostItems
+pub mod Signatures
+pub mod UnitFull
