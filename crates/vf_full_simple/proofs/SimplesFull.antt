@@ -1,11 +1,9 @@
 -- Assignments, calls and declarations that are spelled are read, where what stands behind does not go on with them.
-use Rattle.std.proofs.Common.{◌≡◌, ℕ, ◌+◌, ◌≤◌, ◌<◌, max, Bool, true, false, ◌&&◌, ◌||◌, List, [], ◌∷◌, length, Option, Some, None, refl, sym, subst, ap, ◌∙◌, arith}
+use Rattle.std.proofs.Common.{◌≡◌, ℕ, ◌+◌, ◌≤◌, ◌<◌, true, false, ◌&&◌, ◌||◌, List, Option, Some, None, refl, sym, subst, ap, ◌∙◌, arith}
 use Rattle.std.proofs.lemmas.Bool.{or_parts}
 use Rattle.vf_base.specs.declared.place.Place.{Place}
-use Rattle.vf_lexer.specs.declared.punctuator.Punctuator.{Punctuator}
 use Rattle.vf_lexer.specs.declared.punctuator.Punctuator.TheVariants as punctuators
 use Rattle.vf_lexer.specs.declared.token.Token.{Token}
-use Rattle.vf_syntax.specs.declared.keyword.Keyword.TheVariants as keywords
 use Rattle.vf_syntax.specs.declared.side.Side.TheVariants.{Real}
 use Rattle.vf_syntax.specs.declared.operator.AssignmentOperator.{AssignmentOperator}
 use Rattle.vf_syntax.specs.declared.operator.AssignmentOperator.TheVariants as assignments
@@ -19,24 +17,24 @@ use Rattle.vf_syntax.specs.declared.written.CType.{CType}
 use Rattle.vf_syntax.specs.declared.written.Name.{Name}
 use Rattle.vf_syntax.specs.ExprTree.{ExprTree, PostfixTrees}
 use Rattle.vf_syntax.specs.ExprTree as tree
-use Rattle.vf_syntax.specs.Walks.{Walk, ◌⨾◌, goes_on, provided, at, mark, head_has, is_mark, is_name}
+use Rattle.vf_syntax.specs.Walks.{◌⨾◌, provided, at, mark, head_has, is_mark, is_name}
 use Rattle.vf_syntax.specs.Written.{name, ctype, assignment_mark, assignment_of, step_mark, step_of}
 use Rattle.vf_syntax.specs.Lists.{optional, or_none}
-use Rattle.vf_syntax.specs.Expressions.{expr, nesting, rank, is_within, is_operand, has_links, has_parts}
+use Rattle.vf_syntax.specs.Expressions.{expr, nesting, rank}
 use Rattle.vf_syntax.specs.Statements.{simple, simple_nesting, first, first_nesting, initializer, whole_nesting, is_call, is_left_side}
-use Rattle.vf_cursor.specs.Parsing.{Parser, ok, mark_at, name_at, is_there}
-use Rattle.vf_cursor.specs.Types.{is_type_word, next_mark, next_assignment, next_step, found_then, ctype_at}
+use Rattle.vf_cursor.specs.Parsing.{Parser, ok, mark_at, is_there}
+use Rattle.vf_cursor.specs.Types.{is_type_word, next_assignment, next_step, found_then}
 use Rattle.vf_cursor.proofs.Facts.{ok_pair}
 use Rattle.vf_parse_expression.specs.Operands.{after}
 use Rattle.vf_parse_expression.specs.Parsers.{expr_at, postfix_at}
 use Rattle.vf_parse_expression.proofs.Small.{goes}
 use Rattle.vf_parse_simple.specs.Simples.{sees_declaration, declared_at, value_at, optional_value_at, assigned_at, step_after_at, step_before_at, called_at, behind_at, simple_at, first_declaration_at, first_at}
 use Rattle.vf_full_expression.specs.Laws.{goes_on_with}
-use Rattle.vf_full_expression.proofs.Same.{some_same, no_true, both}
-use Rattle.vf_full_expression.proofs.Fronts.{Class, a_mark, a_word, a_name, a_number, a_character, class_mark, class_name, class_next, Front, gone, at_stays, mark_took, mark_front, identifier_front, identifier_took}
+use Rattle.vf_full_expression.proofs.Same.{some_same, no_true}
+use Rattle.vf_full_expression.proofs.Fronts.{Class, a_mark, a_word, a_name, a_number, a_character, class_mark, class_next, Front, gone, mark_front, identifier_front}
 use Rattle.vf_full_expression.proofs.Taken.{mark_here, mark_read, name_read}
-use Rattle.vf_full_expression.proofs.TypesFull.{Ends, Typed, by_word, by_name, class_type, width_of, type_word_of, ctype_full, ctype_begins}
-use Rattle.vf_full_expression.proofs.Begins.{class_primary, class_expr, Begun, behind, met, loose, expr_begins, no_type, unstarred}
+use Rattle.vf_full_expression.proofs.TypesFull.{Typed, by_word, by_name, width_of, type_word_of, ctype_full, ctype_begins}
+use Rattle.vf_full_expression.proofs.Begins.{class_primary, behind, met, expr_begins, no_type, unstarred}
 use Rattle.vf_full_expression.proofs.Behind.{hold, Looser, front_looser, ended, no_star}
 use Rattle.vf_full_expression.proofs.ExprFull.{Full, at_most, expr_full, postfix_full}
 use Rattle.vf_full_simple.specs.Laws.{goes_on_with_simple}

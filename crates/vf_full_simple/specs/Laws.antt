@@ -1,5 +1,5 @@
 -- What is spelled is read.
-use Rattle.std.specs.Prelude.{◌≡◌, ℕ, ◌≤◌, Bool, true, false, ◌||◌, List, Option, Some}
+use Rattle.std.specs.Prelude.{◌≡◌, ℕ, ◌≤◌, Bool, false, ◌||◌, List, Option, Some}
 use Rattle.vf_lexer.specs.declared.punctuator.Punctuator.TheVariants.{Becomes}
 use Rattle.vf_lexer.specs.declared.token.Token.{Token}
 use Rattle.vf_syntax.specs.declared.side.Side.TheVariants.{Real}

@@ -1,5 +1,5 @@
 -- What statements begin with, and that each takes a token at least.
-use Rattle.std.proofs.Common.{◌≡◌, ℕ, ◌≤◌, Bool, true, false, not, ◌&&◌, ◌||◌, List, [], ◌∷◌, Option, Some, None, refl, sym, subst, ap, ◌∙◌}
+use Rattle.std.proofs.Common.{◌≡◌, ◌≤◌, Bool, true, false, not, ◌||◌, List, [], ◌∷◌, Option, Some, None, refl, sym, subst, ◌∙◌}
 use Rattle.std.proofs.lemmas.Bool.{or_parts}
 use Rattle.vf_base.specs.declared.place.Place.{Place}
 use Rattle.vf_lexer.specs.declared.punctuator.Punctuator.{Punctuator}
@@ -13,7 +13,6 @@ use Rattle.vf_syntax.specs.declared.side.Grammar.{Grammar}
 use Rattle.vf_syntax.specs.declared.side.Grammar.TheVariants as grammars
 use Rattle.vf_syntax.specs.declared.operator.StepOperator.{StepOperator}
 use Rattle.vf_syntax.specs.declared.operator.StepOperator.TheVariants as steps
-use Rattle.vf_syntax.specs.declared.contract.Invariant.{Invariant}
 use Rattle.vf_syntax.specs.declared.simple.Simple.{Simple}
 use Rattle.vf_syntax.specs.declared.simple.Simple.TheVariants as simples
 use Rattle.vf_syntax.specs.declared.simple.First.{First}
@@ -21,14 +20,12 @@ use Rattle.vf_syntax.specs.declared.simple.First.TheVariants as firsts
 use Rattle.vf_syntax.specs.ExprTree.{ExprTree}
 use Rattle.vf_syntax.specs.StmtTree.{StmtTree, StmtTrees, no_stmt, more_stmt}
 use Rattle.vf_syntax.specs.StmtTree as tree
-use Rattle.vf_syntax.specs.Walks.{Walk, ◌⨾◌, provided, at, mark, word, head_has, is_on, is_mark, is_word}
-use Rattle.vf_syntax.specs.Written.{name, ctype, step_mark}
-use Rattle.vf_syntax.specs.Lists.{optional}
+use Rattle.vf_syntax.specs.Walks.{Walk, provided, at, mark, word, head_has, is_on, is_mark, is_word}
+use Rattle.vf_syntax.specs.Written.{ctype, step_mark}
 use Rattle.vf_syntax.specs.Expressions.{expr, rank}
-use Rattle.vf_syntax.specs.Commands.{command}
-use Rattle.vf_syntax.specs.Statements.{simple, first, initializer, invariant_walk, owed, stmt, stmts, is_command, is_open, is_left_side, is_call}
+use Rattle.vf_syntax.specs.Statements.{simple, first, initializer, invariant_walk, owed, stmt, stmts, is_command, is_left_side, is_call}
 use Rattle.vf_parse_statement.specs.Parsers.{is_inside}
-use Rattle.vf_full_expression.proofs.Same.{no_true, both}
+use Rattle.vf_full_expression.proofs.Same.{no_true}
 use Rattle.vf_full_expression.proofs.Fronts.{Class, a_mark, a_word, a_name, a_number, a_character, class_mark, class_word, Front, gone, at_stays, mark_front, word_front}
 use Rattle.vf_full_expression.proofs.TypesFull.{Typed, by_word, by_name, class_type, ctype_begins}
 use Rattle.vf_full_expression.proofs.Eaten.{Keeps, Eats, keeps, keep_then, eat_then, then_eat, nothing_keeps, provided_keeps, at_keeps, mark_eats, word_eats, name_eats, ctype_eats, expr_eats}

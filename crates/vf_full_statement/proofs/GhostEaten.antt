@@ -1,5 +1,5 @@
 -- What is spelled in annotations takes a token at least, and what ghost commands begin with.
-use Rattle.std.proofs.Common.{◌≡◌, ℕ, Bool, true, false, List, [], ◌∷◌, length, Option, Some, None, refl, sym, subst, ap, arith}
+use Rattle.std.proofs.Common.{◌≡◌, ℕ, true, false, List, [], ◌∷◌, length, Option, Some, None, refl, sym, subst, ap, arith}
 use Rattle.vf_lexer.specs.declared.token.Token.{Token}
 use Rattle.vf_lexer.specs.declared.punctuator.Punctuator.TheVariants as punctuators
 use Rattle.vf_syntax.specs.declared.keyword.Keyword.{Keyword}
@@ -28,8 +28,8 @@ use Rattle.vf_syntax.specs.AssertionTree.{PartTree, PartTrees, AssertionCaseTree
 use Rattle.vf_syntax.specs.AssertionTree as parts
 use Rattle.vf_syntax.specs.GhostCommandTree.{GhostCommandTree, GhostCommandTrees, CommandCaseTree, CommandCaseTrees, no_ghost_command, more_ghost_command, no_command_case, more_command_case}
 use Rattle.vf_syntax.specs.GhostCommandTree as tree
-use Rattle.vf_syntax.specs.Walks.{Walk, ◌⨾◌, nothing, never, at, mark, word, identifier, wild, is_wild}
-use Rattle.vf_syntax.specs.Written.{name, ctype}
+use Rattle.vf_syntax.specs.Walks.{Walk, never, at, mark, word, identifier, wild, is_wild}
+use Rattle.vf_syntax.specs.Written.{name}
 use Rattle.vf_syntax.specs.Lists.{optional, each, separated, behind_commas}
 use Rattle.vf_syntax.specs.GhostExpressions.{sort, sort_arguments, sorts_separated, more_sorts, ghost_expr, ghost_link, ghost_links, ghost_arguments, more_ghost_arguments}
 use Rattle.vf_syntax.specs.Assertions.{factor, factor_link, amount, share, pattern, pattern_list, name_list, case_pattern, part, assertion, more_parts, assertion_case, assertion_cases}

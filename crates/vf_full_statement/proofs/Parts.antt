@@ -1,5 +1,5 @@
 -- What stands in a statement besides other statements is read.
-use Rattle.std.proofs.Common.{◌≡◌, ℕ, ◌+◌, ◌≤◌, ◌<◌, max, Bool, true, false, List, [], ◌∷◌, Option, Some, None, refl, sym, subst, ap, ◌∙◌, arith}
+use Rattle.std.proofs.Common.{◌≡◌, ℕ, ◌+◌, ◌≤◌, Bool, true, false, List, Option, Some, None, refl, sym, subst, ◌∙◌, arith}
 use Rattle.vf_base.specs.declared.place.Place.{Place}
 use Rattle.vf_lexer.specs.declared.punctuator.Punctuator.TheVariants as punctuators
 use Rattle.vf_lexer.specs.declared.token.Token.{Token}
@@ -7,7 +7,6 @@ use Rattle.vf_syntax.specs.declared.keyword.Keyword.TheVariants as keywords
 use Rattle.vf_syntax.specs.declared.side.Side.TheVariants.{Real}
 use Rattle.vf_syntax.specs.declared.side.Grammar.{Grammar}
 use Rattle.vf_syntax.specs.declared.side.Grammar.TheVariants as grammars
-use Rattle.vf_syntax.specs.declared.contract.Invariant.{Invariant}
 use Rattle.vf_syntax.specs.declared.simple.Simple.{Simple}
 use Rattle.vf_syntax.specs.declared.simple.First.{First}
 use Rattle.vf_syntax.specs.declared.simple.First.TheVariants as firsts
@@ -16,22 +15,22 @@ use Rattle.vf_syntax.specs.declared.written.Name.{Name}
 use Rattle.vf_syntax.specs.ExprTree.{ExprTree}
 use Rattle.vf_syntax.specs.StmtTree.{StmtTree}
 use Rattle.vf_syntax.specs.StmtTree as tree
-use Rattle.vf_syntax.specs.Walks.{Walk, ◌⨾◌, goes_on, at, mark, word, head_has, is_mark, is_word}
+use Rattle.vf_syntax.specs.Walks.{Walk, ◌⨾◌, at, mark, word, head_has, is_mark, is_word}
 use Rattle.vf_syntax.specs.Written.{name, ctype}
 use Rattle.vf_syntax.specs.Lists.{optional, or_none}
 use Rattle.vf_syntax.specs.Expressions.{expr, nesting}
 use Rattle.vf_syntax.specs.Statements.{owed, simple, simple_nesting, first, first_nesting, initializer, whole_nesting, stmt, stmt_nesting}
-use Rattle.vf_cursor.specs.Parsing.{Parser, ok, here_at, mark_at, word_at}
+use Rattle.vf_cursor.specs.Parsing.{Parser, ok}
 use Rattle.vf_parse_expression.proofs.Small.{goes}
-use Rattle.vf_parse_simple.specs.Simples.{sees_declaration, declared_at, optional_value_at, simple_at, first_at}
+use Rattle.vf_parse_simple.specs.Simples.{sees_declaration, declared_at, simple_at, first_at}
 use Rattle.vf_parse_statement.specs.declared.flat.Parts.{Parts}
 use Rattle.vf_parse_statement.specs.Parsers.{is_whole, owed_at, unless_at, declaration_at, simple_statement_at, optional_expr_at, return_at, empty_at, flat_at, condition_at, optional_first_at, optional_step_at, head_at}
 use Rattle.vf_full_expression.proofs.Same.{some_same, no_true}
 use Rattle.vf_full_expression.proofs.Fronts.{Class, a_mark, a_word, a_name, a_number, a_character, class_mark, class_word, Front, gone, at_stays, mark_front, word_front}
 use Rattle.vf_full_expression.proofs.Taken.{here_read, mark_here, mark_read, word_here}
 use Rattle.vf_full_expression.proofs.TypesFull.{ctype_begins}
-use Rattle.vf_full_expression.proofs.Begins.{class_expr, behind, expr_begins, unclosed}
-use Rattle.vf_full_expression.proofs.Behind.{Looser, front_looser}
+use Rattle.vf_full_expression.proofs.Begins.{class_expr, behind, expr_begins}
+use Rattle.vf_full_expression.proofs.Behind.{front_looser}
 use Rattle.vf_full_expression.proofs.ExprFull.{Full, at_most}
 use Rattle.vf_full_simple.proofs.SimplesFull.{Closed, front_closed, declared_full, optional_value_full, simple_full, first_full, declaration_seen, no_declaration}
 use Rattle.vf_full_statement.proofs.Begins.{Ordinary, parted, typed_ordinary, simple_ordinary}

@@ -1,5 +1,5 @@
 -- Statements that are spelled are read, where no `else` stands behind them.
-use Rattle.std.proofs.Common.{◌≡◌, ℕ, zero, suc, ◌+◌, ◌≤◌, max, Bool, true, false, not, ◌&&◌, List, [], ◌∷◌, length, Option, Some, None, refl, sym, subst, ap, ◌∙◌, arith}
+use Rattle.std.proofs.Common.{◌≡◌, ℕ, zero, suc, ◌+◌, ◌≤◌, Bool, true, false, not, List, [], ◌∷◌, length, Option, Some, refl, sym, subst, ap, ◌∙◌, arith}
 use Rattle.vf_base.specs.declared.place.Place.{Place}
 use Rattle.vf_lexer.specs.declared.punctuator.Punctuator.TheVariants as punctuators
 use Rattle.vf_lexer.specs.declared.token.Token.{Token}
@@ -15,28 +15,28 @@ use Rattle.vf_syntax.specs.ExprTree.{ExprTree}
 use Rattle.vf_syntax.specs.GhostCommandTree.{GhostCommandTree}
 use Rattle.vf_syntax.specs.StmtTree.{StmtTree, StmtTrees, no_stmt, more_stmt, stmt_list}
 use Rattle.vf_syntax.specs.StmtTree as tree
-use Rattle.vf_syntax.specs.Walks.{Walk, ◌⨾◌, goes_on, provided, at, mark, word, head_has, is_on, is_mark, is_word}
-use Rattle.vf_syntax.specs.Lists.{optional, or_none}
-use Rattle.vf_syntax.specs.Expressions.{expr, nesting}
+use Rattle.vf_syntax.specs.Walks.{◌⨾◌, provided, at, mark, word, head_has, is_on, is_mark, is_word}
+use Rattle.vf_syntax.specs.Lists.{optional}
+use Rattle.vf_syntax.specs.Expressions.{expr}
 use Rattle.vf_syntax.specs.Commands.{command, command_nesting}
-use Rattle.vf_syntax.specs.Statements.{owed, simple, simple_nesting, first, first_nesting, whole_nesting, invariant_walk, invariant_nesting, stmt, stmt_nesting, stmts, stmts_nesting, is_open, is_command}
+use Rattle.vf_syntax.specs.Statements.{owed, simple, first, invariant_walk, invariant_nesting, stmt, stmt_nesting, stmts, stmts_nesting, is_open, is_command}
 use Rattle.vf_syntax.specs.Units.{body}
-use Rattle.vf_cursor.specs.Parsing.{Parser, ok, mark_at, word_at}
+use Rattle.vf_cursor.specs.Parsing.{Parser, ok}
 use Rattle.vf_parse_expression.specs.Parsers.{expr_at, postfix_at}
 use Rattle.vf_parse_expression.proofs.Small.{goes}
 use Rattle.vf_parse_statement.specs.Annotations.{reads_none}
 use Rattle.vf_full_simple.proofs.SimplesFull.{one_read}
-use Rattle.vf_parse_statement.specs.Parsers.{is_whole, owed_at, condition_at, branches_at, if_at, while_head_at, while_at, for_head_at, for_at, head_at, flat_at, command_statement_at, sees_annotation, stmt_by, is_inside, stmts_by, body_by, block_by, real_by, real_at, stmt_at, stmts_at, body_at}
+use Rattle.vf_parse_statement.specs.Parsers.{is_whole, branches_at, if_at, while_head_at, while_at, for_head_at, for_at, command_statement_at, sees_annotation, stmt_by, is_inside, stmts_by, body_by, block_by, real_by, real_at, stmt_at, body_at}
 use Rattle.vf_parse_statement.proofs.Sound.{stmts_collect}
-use Rattle.vf_full_expression.proofs.Same.{some_same, no_true}
-use Rattle.vf_full_expression.proofs.Fronts.{Class, a_mark, a_word, Front, gone, at_stays, mark_front, word_front}
-use Rattle.vf_full_expression.proofs.Taken.{here_read, mark_here, mark_read, word_here, word_read}
+use Rattle.vf_full_expression.proofs.Same.{no_true}
+use Rattle.vf_full_expression.proofs.Fronts.{a_mark, Front, gone, mark_front, word_front}
+use Rattle.vf_full_expression.proofs.Taken.{here_read, mark_here, word_here, word_read}
 use Rattle.vf_full_expression.proofs.Begins.{behind, met}
 use Rattle.vf_full_expression.proofs.ExprFull.{Full, expr_full, postfix_full}
 use Rattle.vf_full_expression.proofs.Items.{Item, items_full}
-use Rattle.vf_full_statement.specs.Annotations.{FullCommands, FullInvariants, FullTexts}
-use Rattle.vf_full_statement.proofs.Begins.{Elseless, Begun, stmt_begins, stmt_eats, off_word, real_only}
-use Rattle.vf_full_statement.proofs.Parts.{owed_full, condition_full, parts_of, head_full, is_flat, flat_full}
+use Rattle.vf_full_statement.specs.Annotations.{FullTexts}
+use Rattle.vf_full_statement.proofs.Begins.{Elseless, stmt_begins, stmt_eats, off_word, real_only}
+use Rattle.vf_full_statement.proofs.Parts.{owed_full, condition_full, head_full, is_flat, flat_full}
 
 -- no `else` stands behind a statement that ends in an `if` without one
 abbrev pub NoElse : StmtTree → List Token → Type 0
