@@ -6,3 +6,4 @@ pub mod Telling
 pub mod Paths
 pub mod Following
 pub mod Wholes
+pub mod Remembering

@@ -3,3 +3,4 @@ pub mod Walks
 pub mod Weights
 pub mod Steps
 pub mod Wholes
+pub mod Remembered

@@ -10,12 +10,14 @@ ghost use Rattle.vf_preproc.specs.Units.{unit_of};
 ghost use Rattle.vf_expand.specs.Walks.{going_of};
 ghost use Rattle.vf_expand.specs.Weights.{left_of, LineFalls};
 ghost use Rattle.vf_expand.specs.Steps.{LineGives, FirstGives, WantedGives};
+ghost use Rattle.vf_expand.specs.Remembered.{Keeps};
 
 use std::alloc::Global;
+use std::collections::BTreeMap;
 use vf_base::{Memory, Place, Text};
 use vf_lexer::{Token, TokenList};
 use vf_preproc::{
-    ExpandFault, File, Loaded, Scope, Step, Unit, first_line, follow_line, opened, target,
+    ExpandFault, File, Join, Loaded, Scope, Step, Unit, first_line, follow_line, opened, target,
 };
 
 /// A file whose lines are being followed.
@@ -27,6 +29,8 @@ pub struct Open {
     /// How many of the tokens stand on lines that were followed.
     pub at: usize,
     pub scope: Scope,
+    /// What is remembered of the headers that it has joined, by their numbers among the files that were begun.
+    pub joins: BTreeMap<usize, Join>,
 }
 
 /// A file that waits for the end of a header which it includes.
@@ -65,6 +69,7 @@ pub enum Line {
 /// The beginning of a file.
 pub fn open_file(alloc: Global, path: Text, file: Loaded) -> Result<Open, Memory>
     ensures left { IfOk result (λ o. left_of o < 2 ^ 64) }
+    ensures joins { IfOk result (λ o. o.joins.entries ≡ []) }
     ensures going { IfOk result (λ o. going_of o ≡ record {
       file = record { path = path; bytes = file.bytes };
       lines = lines_of file.tokens;
@@ -79,6 +84,7 @@ pub fn open_file(alloc: Global, path: Text, file: Loaded) -> Result<Open, Memory
         tokens: file.tokens,
         at: 0,
         scope,
+        joins: BTreeMap::new(alloc),
     })
 }
 
@@ -119,6 +125,7 @@ fn follow_first(
     requires some { 0 < length tokens.now }
     ensures exact { FirstGives (file_of file.entry) tokens.now (unit_of unit.old) (scope_of scope.old) (unit_of unit.new) (scope_of scope.new) result }
     ensures few { OnOk result (length unit.new.tokens ≤ 200001) }
+    ensures keeps { OnOk result (Keeps (unit_of unit.old) (scope_of scope.old) (unit_of unit.new) (scope_of scope.new)) }
 {
     match follow_line(unit, scope, file, tokens)? {
         Step::Done => Ok(None),
@@ -135,6 +142,8 @@ pub fn follow_next(unit: &mut Unit, current: &mut Open) -> Result<Line, ExpandFa
     ensures exact { LineGives (going_of current.old) (unit_of unit.old) (going_of current.new) (unit_of unit.new) result }
     ensures falls { IfOk result (LineFalls (left_of current.old) (left_of current.new)) }
     ensures few { OnOk result (length unit.new.tokens ≤ 200001) }
+    ensures keeps { OnOk result (Keeps (unit_of unit.old) (scope_of current.old.scope) (unit_of unit.new) (scope_of current.new.scope)) }
+    ensures joins { current.new.joins ≡ current.old.joins }
 {
     if current.at >= current.tokens.len() {
         return Ok(Line::End);

@@ -1,7 +1,8 @@
 //! The walk over files.
 
-ghost use Rattle.std.specs.Prelude.{◌≡◌, ℕ, ◌≤◌, ◌<◌, ◌∷◌, [], None, Some, Ok, length, IfOk, IfErr, OnOk, IsErrOf, IsTrue, MatchOption};
+ghost use Rattle.std.specs.Prelude.{◌≡◌, ℕ, ◌≤◌, ◌<◌, ◌∷◌, [], None, Some, Ok, length, reverse, IfOk, IfErr, OnOk, IsErrOf, IsTrue, MatchOption};
 ghost use Rattle.std.specs.List.{list_all};
+ghost use Rattle.std.specs.Option.{option_map};
 ghost use Rattle.vf_base.specs.Outside.{Rose};
 ghost use Rattle.vf_names.specs.Names.{number_of};
 ghost use Rattle.vf_preproc.specs.Answers.{Gives};
@@ -11,14 +12,18 @@ ghost use Rattle.vf_preproc.specs.UnitText.{Library, completed};
 ghost use Rattle.vf_preproc.specs.Units.{unit_of, Tells};
 ghost use Rattle.vf_expand.specs.Worlds.{world, Reads};
 ghost use Rattle.vf_expand.specs.Walks.{pause_of, pauses_of, going_of, walk_text, resumed};
+ghost use Rattle.vf_expand.specs.Remembered.{Remembers, AllRemember, complete_at, WalkRemembers, NextRemembers};
 ghost use Rattle.vf_expand.specs.Weights.{left_of, lefts_of, weight, weight_of, weight_before, NextFalls};
 ghost use Rattle.vf_expand.specs.Steps.{old_text, walk_include_text, WalkGives, NextGives, EndGives, FewNext, Begins, IsOwn};
 
 use crate::frames::{Include, Line, Waiting, follow_next, open_file};
 use crate::sources::load_header;
 use crate::state::{Next, Walk};
+use std::collections::BTreeMap;
 use vf_base::{Files, Memory, Place, Rule};
-use vf_preproc::{ExpandFault, Header, Loaded, Scope, Unit, closed, path_text, with_header};
+use vf_preproc::{
+    ExpandFault, Header, Join, Loaded, Scope, Unit, closed, join_header, path_text, with_header,
+};
 use vf_snapshot::Snapshot;
 
 /// How many includes may stand within one another.
@@ -28,6 +33,7 @@ const MOST_DEPTH: usize = 32;
 fn wait(stack: &mut Vec<Waiting>, file: Waiting) -> Result<(), Memory>
     ensures pauses { OnOk result (pauses_of stack.new.items ≡ pause_of file ∷ pauses_of stack.old.items) }
     ensures lefts { OnOk result (lefts_of stack.new.items ≡ left_of file.file ∷ lefts_of stack.old.items) }
+    ensures waiting { OnOk result (reverse stack.new.items ≡ file ∷ reverse stack.old.items) }
 {
     stack.push(file)?;
     Ok(())
@@ -37,23 +43,42 @@ fn wait(stack: &mut Vec<Waiting>, file: Waiting) -> Result<(), Memory>
 fn wake(stack: &mut Vec<Waiting>) -> Option<Waiting>
     ensures pauses { MatchOption result (pauses_of stack.old.items ≡ []) (λ file. pauses_of stack.old.items ≡ pause_of file ∷ pauses_of stack.new.items) }
     ensures lefts { MatchOption result (stack.new.items ≡ stack.old.items) (λ file. lefts_of stack.old.items ≡ left_of file.file ∷ lefts_of stack.new.items) }
+    ensures waiting { MatchOption result (stack.new.items ≡ stack.old.items) (λ file. reverse stack.old.items ≡ file ∷ reverse stack.new.items) }
 {
     stack.pop()
 }
 
-/// Joins a header that was begun before to the file that includes it.
+/// The header with a number among the files that were begun, where it is complete.
+fn complete_header(unit: &Unit, number: usize) -> Option<&Header>
+    ensures { option_map (λ h. header_of h.now) result ≡ complete_at (unit_of unit.now) number }
+{
+    match unit.complete.get(number) {
+        Some(header) => header.as_ref(),
+        None => None,
+    }
+}
+
+/// Joins a header that was begun before to the file that includes it, which remembers that.
 fn join_old(
     unit: &Unit,
     scope: &mut Scope,
-    hash: Place,
-    is_ghost: bool,
+    joins: &mut BTreeMap<usize, Join>,
+    include: &Include,
     number: usize,
 ) -> Result<(), ExpandFault>
-    ensures { Gives (λ _. (unit_of unit.now, scope_of scope.new)) result (old_text hash is_ghost (unit_of unit.now) number (scope_of scope.old)) }
+    requires below { number < length unit.now.paths }
+    requires remembers { Remembers (length unit.now.paths) (unit_of unit.now).complete joins.old (scope_of scope.old) }
+    ensures exact { Gives (λ _. (unit_of unit.now, scope_of scope.new)) result (old_text include.now.hash include.now.is_ghost (unit_of unit.now) number (scope_of scope.old)) }
+    ensures remembers { OnOk result (Remembers (length unit.now.paths) (unit_of unit.now).complete joins.new (scope_of scope.new)) }
 {
-    match unit.complete.get(number) {
-        Some(Some(header)) => with_header(is_ghost, hash, header, scope),
-        _ => Err(ExpandFault::refusal(Rule::Include, hash)),
+    match complete_header(unit, number) {
+        Some(header) => {
+            let known = joins.get(&number).copied();
+            let join = join_header(include.is_ghost, include.hash, header, scope, known)?;
+            joins.insert(number, join)?;
+            Ok(())
+        }
+        None => Err(ExpandFault::refusal(Rule::Include, include.hash)),
     }
 }
 
@@ -64,11 +89,13 @@ fn include_new<F: Files>(
     files: &mut F,
     include: Include,
 ) -> Result<Walk, ExpandFault>
+    requires remembers { WalkRemembers walk }
     requires few { length walk.unit.tokens ≤ 200001 }
     requires shallow { length walk.stack.items < 32 }
     requires path { IsTrue (list_all is_ascii include.path) }
     requires new { number_of walk.unit.paths include.path ≡ None }
     ensures exact { (library : Library) → Tells library snapshot.new → WalkGives (walk_include_text library include walk) library result }
+    ensures remembers { IfOk result WalkRemembers }
     ensures few { IfOk result (λ w. length w.unit.tokens ≤ 200001) }
     ensures falls { IfOk result (λ w. weight w < weight_before walk) }
     ensures there { IsErrOf result ExpandFault.Missing → ⊥ }
@@ -84,10 +111,12 @@ fn include_new<F: Files>(
 
 /// Begins a header that was read.
 fn begin(walk: Walk, include: Include, loaded: Loaded) -> Result<Walk, ExpandFault>
+    requires remembers { WalkRemembers walk }
     requires few { length walk.unit.tokens ≤ 200001 }
     requires new { number_of walk.unit.paths include.path ≡ None }
     ensures begun { IfOk result (λ w. Begins walk include loaded w) }
     ensures falls { length walk.stack.items < 32 → IfOk result (λ w. weight w < weight_before walk) }
+    ensures remembers { IfOk result WalkRemembers }
     ensures few { IfOk result (λ w. length w.unit.tokens ≤ 200001) }
     ensures memory { IfErr result (λ e. e ≡ ExpandFault.Memory) }
 {
@@ -119,9 +148,11 @@ fn include<F: Files>(
     files: &mut F,
     include: Include,
 ) -> Result<Walk, ExpandFault>
+    requires remembers { WalkRemembers walk }
     requires few { length walk.unit.tokens ≤ 200001 }
     requires path { IsTrue (list_all is_ascii include.path) }
     ensures exact { (library : Library) → Tells library snapshot.new → WalkGives (walk_include_text library include walk) library result }
+    ensures remembers { IfOk result WalkRemembers }
     ensures few { IfOk result (λ w. length w.unit.tokens ≤ 200001) }
     ensures falls { IfOk result (λ w. weight w < weight_before walk) }
     ensures there { IsErrOf result ExpandFault.Missing → ⊥ }
@@ -141,11 +172,13 @@ fn include<F: Files>(
 
 /// Goes on behind the include of a header that was begun before.
 fn include_old(walk: Walk, include: Include, number: usize) -> Result<Walk, ExpandFault>
+    requires remembers { WalkRemembers walk }
     requires few { length walk.unit.tokens ≤ 200001 }
     requires shallow { length walk.stack.items < 32 }
     requires old { number_of walk.unit.paths include.path ≡ Some number }
     ensures exact { (library : Library) → WalkGives (walk_include_text library include walk) library result }
     ensures own { IfErr result IsOwn }
+    ensures remembers { IfOk result WalkRemembers }
     ensures few { IfOk result (λ w. length w.unit.tokens ≤ 200001) }
     ensures falls { IfOk result (λ w. weight w < weight_before walk) }
 {
@@ -157,8 +190,8 @@ fn include_old(walk: Walk, include: Include, number: usize) -> Result<Walk, Expa
     join_old(
         &unit,
         &mut current.scope,
-        include.hash,
-        include.is_ghost,
+        &mut current.joins,
+        &include,
         number,
     )?;
     Ok(Walk {
@@ -185,9 +218,11 @@ fn resume(
     waiting: Waiting,
     header: Header,
 ) -> Result<Walk, ExpandFault>
+    requires remembers { AllRemember (length unit.paths) (unit_of unit).complete (waiting ∷ reverse stack.items) }
     requires few { length unit.tokens ≤ 200001 }
     ensures exact { (library : Library) → WalkGives (resumed library (pause_of waiting ∷ pauses_of stack.items) (Ok (unit_of unit, header_of header))) library result }
     ensures own { IfErr result IsOwn }
+    ensures remembers { IfOk result WalkRemembers }
     ensures few { IfOk result (λ w. length w.unit.tokens ≤ 200001) }
     ensures weighs { IfOk result (λ w. weight w ≡ weight_of (left_of waiting.file ∷ lefts_of stack.items)) }
 {
@@ -209,10 +244,12 @@ fn resume(
 
 /// Ends the file whose lines were followed.
 fn end(walk: Walk) -> Result<Next, ExpandFault>
+    requires remembers { WalkRemembers walk }
     requires few { length walk.unit.tokens ≤ 200001 }
     requires done { (going_of walk.current).lines ≡ [] }
     ensures exact { (library : Library) → NextGives (walk_text library walk) library result }
     ensures own { IfErr result IsOwn }
+    ensures remembers { IfOk result NextRemembers }
     ensures few { IfOk result FewNext }
     ensures falls { IfOk result (NextFalls (weight walk)) }
 {
@@ -233,8 +270,10 @@ fn end(walk: Walk) -> Result<Next, ExpandFault>
 
 /// Goes on by a line, or by the end of a file.
 fn go_on<F: Files>(walk: Walk, snapshot: &mut Snapshot, files: &mut F) -> Result<Next, ExpandFault>
+    requires remembers { WalkRemembers walk }
     requires few { length walk.unit.tokens ≤ 200001 }
     ensures exact { (library : Library) → Tells library snapshot.new → NextGives (walk_text library walk) library result }
+    ensures remembers { IfOk result NextRemembers }
     ensures few { IfOk result FewNext }
     ensures falls { IfOk result (NextFalls (weight walk)) }
     ensures there { IsErrOf result ExpandFault.Missing → ⊥ }
@@ -260,6 +299,7 @@ pub fn walk_on<F: Files>(
     snapshot: &mut Snapshot,
     files: &mut F,
 ) -> Result<Unit, ExpandFault>
+    requires remembers { WalkRemembers walk }
     requires few { length walk.unit.tokens ≤ 200001 }
     ensures exact { (library : Library) → Tells library snapshot.new → EndGives (walk_text library walk) result }
     ensures few { IfOk result (λ unit. length unit.tokens ≤ 200001) }

@@ -65,13 +65,20 @@ fn check_refused(
 }
 
 /// Texts of files, the tokens of their unit, and how many headers it has.
-const UNITS: [(&str, &str, &str, &str, usize); 8] = [
+const UNITS: [(&str, &str, &str, &str, usize); 9] = [
     ("#include \"a.h\"\nx\n", "y", "", "y x ", 1),
     (
         "#include \"a.h\"\n#include \"a.h\"\nA",
         "#define A 1\ny",
         "",
         "y 1 ",
+        1,
+    ),
+    (
+        "#include \"a.h\"\n#include \"a.h\"\n#define B y\n#include \"a.h\"\nB A",
+        "#define A 1\nx",
+        "",
+        "x y 1 ",
         1,
     ),
     (
@@ -128,7 +135,7 @@ fn units(rt: HostRuntime) -> Result<(), Fail> {
 }
 
 /// Texts of files, and the rule and the place of the refusal of their unit.
-const REFUSALS: [(&str, &str, &str, Rule, u32, u32, u32); 8] = [
+const REFUSALS: [(&str, &str, &str, Rule, u32, u32, u32); 9] = [
     ("#include \"a.h\"", "x\n$", "", Rule::Lex, 1, 2, 1),
     ("x\n #include \"no.h\"", "", "", Rule::Include, 0, 2, 2),
     ("#include <a.h>", "", "", Rule::Include, 0, 1, 1),
@@ -158,6 +165,15 @@ const REFUSALS: [(&str, &str, &str, Rule, u32, u32, u32); 8] = [
         Rule::Directive,
         0,
         2,
+        1,
+    ),
+    (
+        "#include \"a.h\"\n#include \"a.h\"\n#define x 2\n#include \"a.h\"",
+        "x",
+        "",
+        Rule::Directive,
+        0,
+        4,
         1,
     ),
     (
@@ -293,6 +309,35 @@ fn faults(rt: HostRuntime) -> Result<(), Fail> {
             Err(ExpandFault::ReadFault) => assert!(rt; !is_missing, "at {path}"),
             _ => assert!(rt; false, "at {path}"),
         }
+    }
+    Ok(())
+}
+
+/// A file that includes a header so many times, which has so many names.
+fn repeating(alloc: Global, times: u32, names: u32) -> Result<MemoryFiles, Fail> {
+    let mut main = Vec::new(alloc);
+    for _time in 0..times {
+        main.extend_from_slice(b"#include \"a.h\"\n".as_slice())?;
+    }
+    let mut header = Vec::new(alloc);
+    for number in 0..names {
+        let name = format!(in alloc; "x{number}\n")?;
+        header.extend_from_slice(name.as_bytes())?;
+    }
+    let mut files = MemoryFiles::new(alloc, NumberList::new(alloc));
+    files.set("m.c", &main)?;
+    files.set("a.h", &header)?;
+    Ok(files)
+}
+
+/// A further include of a header does not go over its names again.
+#[test]
+fn repeats(rt: HostRuntime) -> Result<(), Fail> {
+    let mut files = repeating(rt.alloc(), 50_000, 50_000)?;
+    let mut snapshot = Snapshot::new(rt.alloc());
+    match expand(rt.alloc(), &mut snapshot, &mut files, "m.c") {
+        Ok(unit) => assert_eq!(rt; unit.tokens.len(), 50_000),
+        Err(_) => assert!(rt; false, "refused"),
     }
     Ok(())
 }

@@ -7,6 +7,7 @@ ghost use Rattle.vf_snapshot.specs.Holdings.{IsHeldAt};
 ghost use Rattle.vf_preproc.specs.UnitText.{Library, begun};
 ghost use Rattle.vf_preproc.specs.Units.{Tells, unit_of};
 ghost use Rattle.vf_expand.specs.Worlds.{world, Reads};
+ghost use Rattle.vf_expand.specs.Remembered.{WalkRemembers};
 ghost use Rattle.vf_lexer.specs.Tokens.{place_behind};
 ghost use Rattle.vf_preproc.specs.Answers.{Gives};
 ghost use Rattle.vf_expand.specs.Wholes.{no_unit, end_of, text_of, text_of_unit, text_of_file, counted, UnitGives, FileGives, Starts};
@@ -100,6 +101,7 @@ fn begin(alloc: Global, path: &[u8]) -> Result<Unit, Memory>
 fn start(alloc: Global, path: &[u8], file: Loaded) -> Result<Walk, Memory>
     ensures starts { IfOk result (λ walk. Starts path.now file walk) }
     ensures few { IfOk result (λ walk. length walk.unit.tokens ≤ 200001) }
+    ensures remembers { IfOk result WalkRemembers }
 {
     Ok(Walk {
         unit: begin(alloc, path)?,

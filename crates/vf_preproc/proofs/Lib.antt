@@ -5,3 +5,4 @@ pub mod Targeting
 pub mod Joining
 pub mod Grouping
 pub mod Ending
+pub mod Rejoining

@@ -10,3 +10,4 @@ pub mod UnitText
 pub mod Scopes
 pub mod Units
 pub mod LineSteps
+pub mod Joins

@@ -1,6 +1,6 @@
 //! What a header leaves to its includer.
 
-ghost use Rattle.std.specs.Prelude.{◌≡◌, ◌&&◌, not, fold, drop, is_some, map, IfOk, OnOk};
+ghost use Rattle.std.specs.Prelude.{◌≡◌, ◌&&◌, not, fold, drop, is_some, length, map, IfOk, IfSome, OnOk, IsTrue};
 ghost use Rattle.std.specs.List.{list_any};
 ghost use Rattle.vf_names.specs.Names.{put};
 ghost use Rattle.vf_preproc.specs.Macros.{body_of};
@@ -8,6 +8,7 @@ ghost use Rattle.vf_preproc.specs.UnitText.{joined, clashes, with_header};
 ghost use Rattle.vf_preproc.specs.Kept.{table_of};
 ghost use Rattle.vf_preproc.specs.Scopes.{header_of, scope_of};
 ghost use Rattle.vf_preproc.specs.Answers.{Gives};
+ghost use Rattle.vf_preproc.specs.Joins.{AreApart, IsEven, IsJoined, is_foreign, serves};
 
 use crate::fault::ExpandFault;
 use crate::macros::Macros;
@@ -58,6 +59,66 @@ fn join_macros(hash: Place, macros: &mut Macros, others: &Macros) -> Result<(), 
     Ok(())
 }
 
+/// What is remembered of a header that a file has joined.
+#[derive(Clone, Copy, Debug)]
+pub struct Join {
+    /// How many macros the file had then.
+    pub known: usize,
+    /// Whether its include was ghost text, so that its macros are not the file's.
+    pub is_ghost: bool,
+}
+
+/// Whether one of the macros behind the first few is a name of a header and none of its macros.
+fn clashes_behind(known: usize, macros: &Macros, header: &Header) -> bool
+    requires { AreApart known (table_of macros.now) (header_of header.now) header.now.names }
+    ensures { result ≡ clashes (table_of macros.now) (header_of header.now) }
+{
+    let names = macros.names.as_slice();
+    if known > names.len() || names.len() - known > header.names.len() {
+        return clashes(macros, header);
+    }
+    for at in known..names.len() {
+        if is_foreign(header, names[at].as_bytes()) {
+            return true;
+        }
+    }
+    false
+}
+
+/// Whether a name of a header would clash with a macro.
+fn is_foreign(header: &Header, name: &[u8]) -> bool
+    ensures { result ≡ is_foreign (header_of header.now) name.now }
+{
+    header.names.number(name).is_some() && !header.macros.has(name)
+}
+
+/// Whether what is remembered of a header's include serves for a further one.
+fn serves(join: Join, is_ghost: bool) -> bool
+    ensures { result ≡ serves join is_ghost }
+{
+    is_ghost || !join.is_ghost
+}
+
+/// Goes on behind a further include of a header that a file has joined, which changes nothing.
+///
+/// Only the macros that were defined since are looked at.
+fn join_again(
+    is_ghost: bool,
+    hash: Place,
+    join: Join,
+    header: &Header,
+    scope: &Scope,
+) -> Result<(), ExpandFault>
+    requires joined { IsJoined join (header_of header.now) (scope_of scope.now) }
+    requires serves { IsTrue (serves join is_ghost) }
+    ensures { Gives (λ _. scope_of scope.now) result (with_header is_ghost hash (header_of header.now) (scope_of scope.now)) }
+{
+    if clashes_behind(join.known, &scope.macros, header) {
+        return Err(ExpandFault::directive(hash));
+    }
+    Ok(())
+}
+
 /// Goes on behind the include of a header.
 pub fn with_header(
     is_ghost: bool,
@@ -75,4 +136,40 @@ pub fn with_header(
     }
     join_names(&mut scope.names, &header.names)?;
     Ok(())
+}
+
+/// Goes on behind the include of a header, of which it may be known how it has joined the file before;
+/// then only the macros that were defined since are looked at. Gives what is to be remembered of it.
+///
+/// # Errors
+///
+/// Refused by rule 3 at the include where a name of the header is a macro of the file and none of its own,
+/// or where both define a macro differently.
+pub fn join_header(
+    is_ghost: bool,
+    hash: Place,
+    header: &Header,
+    scope: &mut Scope,
+    known: Option<Join>,
+) -> Result<Join, ExpandFault>
+    requires even { IsEven (table_of scope.old.macros) }
+    requires joined { IfSome known (λ join. IsJoined join (header_of header.now) (scope_of scope.old)) }
+    ensures exact { Gives (λ _. scope_of scope.new) result (with_header is_ghost hash (header_of header.now) (scope_of scope.old)) }
+    ensures joined { IfOk result (λ join. IsJoined join (header_of header.now) (scope_of scope.new)) }
+    ensures all { IfOk result (λ join. join.known ≡ length scope.new.macros.names) }
+{
+    if let Some(join) = known {
+        if serves(join, is_ghost) {
+            join_again(is_ghost, hash, join, header, scope)?;
+            return Ok(Join {
+                known: scope.macros.names.len(),
+                is_ghost: join.is_ghost,
+            });
+        }
+    }
+    with_header(is_ghost, hash, header, scope)?;
+    Ok(Join {
+        known: scope.macros.names.len(),
+        is_ghost,
+    })
 }

@@ -26,7 +26,7 @@ pub use fault::ExpandFault;
 pub use groups::{Group, begin, end, is_taken, skip, turn};
 pub use include::{closed, opened};
 pub use include_target::{is_ghost_path, path_text, target};
-pub use join::with_header;
+pub use join::{Join, join_header, with_header};
 pub use laws::replacements_are_whole;
 pub use macros::Macros;
 pub use replace::{MOST_TOKENS, put_expanded};

@@ -1,4 +1,4 @@
-use Rattle.std.proofs.Common.{◌≤◌, ◌-◌, suc, length, arith, Ok, Err, sym, ap, subst, ◌∙◌}
+use Rattle.std.proofs.Common.{◌≤◌, ◌-◌, suc, length, arith, Ok, Err, refl, sym, ap, subst, ◌∙◌}
 use Rattle.std.proofs.lemmas.Result.{err_from_is_err_and}
 use Rattle.vf_preproc.specs.Directives.{Unread}
 use Rattle.vf_preproc.specs.Units.{unit_of}
@@ -8,6 +8,7 @@ use Rattle.vf_expand.specs.Walks.{going_of, pauses_of, resumed, text_from}
 use Rattle.vf_expand.specs.Weights.{left_of, lefts_of, LineFalls}
 use Rattle.vf_expand.proofs.Weighing.{fewer_weigh, no_more_weigh, next_falls}
 use Rattle.vf_expand.proofs.Loading.{fault_in}
+use Rattle.vf_expand.proofs.Remembering.{walk_goes}
 use Rattle.vf_expand.proofs.Walking.{line_faults, fails_own, own_read, own_there, own_read_of, own_there_of}
 use Rattle.vf_expand.proofs.steps.go_on.Goals as goal
 
@@ -61,3 +62,9 @@ pub returns-in-End-clause-falls : goal.returns-in-End-clause-falls
 returns-in-End-clause-falls g c =
     let line = subst (LineFalls (left_of c.args.walk.current) (left_of c.follow_next.new.current)) c.in-End.is c.in_ok-follow_next.ensures.falls in
     next_falls _ _ (no_more_weigh (left_of c.follow_next.new.current) (left_of c.args.walk.current) (lefts_of c.args.walk.stack.items) line) c.end.result c.end.ensures.falls
+
+pub include-requires-clause-remembers : goal.include-requires-clause-remembers
+include-requires-clause-remembers g c = walk_goes c.args.walk (record { unit = c.follow_next.new.unit; stack = c.args.walk.stack; current = c.follow_next.new.current }) c.requires.remembers c.in_ok-follow_next.ensures.keeps c.in_ok-follow_next.ensures.joins refl
+
+pub returns-in-Done-clause-remembers : goal.returns-in-Done-clause-remembers
+returns-in-Done-clause-remembers g c = walk_goes c.args.walk (record { unit = c.follow_next.new.unit; stack = c.args.walk.stack; current = c.follow_next.new.current }) c.requires.remembers c.in_ok-follow_next.ensures.keeps c.in_ok-follow_next.ensures.joins refl

@@ -2,6 +2,7 @@ use Rattle.std.proofs.Common.{Ok, sym, subst, ◌∙◌}
 use Rattle.std.proofs.lemmas.Result.{err_from_is_err_and}
 use Rattle.vf_expand.specs.Steps.{Faults, NextGives, FewNext}
 use Rattle.vf_expand.specs.Walks.{walk_text}
+use Rattle.vf_expand.specs.Remembered.{NextRemembers}
 use Rattle.vf_expand.proofs.Learning.{reads_then, tells_before}
 use Rattle.vf_expand.proofs.steps.walk_on.Goals as goal
 
@@ -28,6 +29,7 @@ steps-preserved g c = record {
   exact = λ library tells.
       let before = c.steps.invariant.exact library (tells_before library c.steps.snapshot c.go_on.new.snapshot c.go_on.ensures.reads.grows tells) in
       before ∙ subst (λ n. NextGives (walk_text library c.steps.state) library (Ok n)) c.in-Goes.is (c.in_ok-next.ensures.exact library tells);
+  remembers = subst NextRemembers c.in-Goes.is c.in_ok-next.ensures.remembers;
   few = subst FewNext c.in-Goes.is c.in_ok-next.ensures.few;
   reads = reads_then _ _ _ c.steps.invariant.reads c.go_on.ensures.reads;
 }
