@@ -1,0 +1,17 @@
+//! C's integer types: what they range over, and how they turn into one another.
+//!
+//! Nothing here takes memory. Numbers are exact: 128 bits hold each number of each type.
+#![tactic(auto)]
+
+mod laws;
+mod ranges;
+#[cfg(test)]
+mod tests;
+mod types;
+
+pub use laws::{
+    common_types_are_mutual, common_types_are_wide, common_types_stay, conversions_fit,
+    conversions_keep, promotion_keeps,
+};
+pub use ranges::{convert, greatest, in_range, least};
+pub use types::{common, promote};
