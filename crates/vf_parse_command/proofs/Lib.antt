@@ -1,0 +1,3 @@
+pub mod FlatRead
+pub mod CaseHeads
+pub mod CommandsRead
