@@ -1,0 +1,5 @@
+pub mod ContractsRead
+pub mod ParametersRead
+pub mod ConstructorsRead
+pub mod FixpointsRead
+pub mod ItemsRead

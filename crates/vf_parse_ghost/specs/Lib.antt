@@ -1,0 +1,6 @@
+pub mod Clauses
+pub mod Parameters
+pub mod Constructors
+pub mod Fixpoints
+pub mod Items
+pub mod Laws
