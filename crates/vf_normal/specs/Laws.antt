@@ -1,0 +1,22 @@
+-- What is shown of normal forms and of the order of terms.
+use Rattle.std.specs.Prelude.{◌≡◌, ◌↔◌}
+use Rattle.std.specs.declared.cmp.Ordering.TheVariants as order
+use Rattle.std.specs.Cmp.{IsTotalOrder}
+use Rattle.vf_meaning.specs.Valuations.{Valuation}
+use Rattle.vf_meaning.specs.GhostValues.{Interpretation}
+use Rattle.vf_closure.specs.Terms.{Term}
+use Rattle.vf_closure.specs.Values.{value}
+use Rattle.vf_normal.specs.Order.{compare}
+use Rattle.vf_normal.specs.Normal.{normal}
+
+-- whatever is declared, in every valuation, a term and its normal form have one value
+abbrev pub NormalFormsKeepValues : Type 0
+NormalFormsKeepValues = (i : Interpretation) (v : Valuation) (t : Term) → value i v (normal t) ≡ value i v t
+
+-- the order of terms is total: one of two terms is before the other or they are equal, and then they are one term
+abbrev pub OrderIsTotal : Type 0
+OrderIsTotal = IsTotalOrder compare × ((t u : Term) → compare t u ≡ order.Equal ↔ t ≡ u)
+
+-- a normal form is its own normal form
+abbrev pub NormalFormsStay : Type 0
+NormalFormsStay = (t : Term) → normal (normal t) ≡ normal t

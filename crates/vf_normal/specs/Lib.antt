@@ -1,0 +1,5 @@
+pub mod Order
+pub mod Sums
+pub mod Normal
+pub mod Laws
+pub mod Examples

@@ -1,0 +1,9 @@
+//! Worked examples of normal forms. The function does nothing; its contract is the examples.
+
+ghost use Rattle.vf_normal.specs.Examples.{WorkedExamples};
+
+/// Terms with their normal forms: sums, numbers that are too large, comparisons, conditionals,
+/// pointers' sums and shares.
+pub fn normal_forms_in_examples()
+    ensures { WorkedExamples }
+{}

@@ -1,0 +1,13 @@
+//! Laws of normal forms. Each function does nothing; its contract is the law.
+
+ghost use Rattle.vf_normal.specs.Laws.{NormalFormsKeepValues, OrderIsTotal};
+
+/// The order of terms is total, and terms that it takes for equal are one term.
+pub fn order_is_total()
+    ensures { OrderIsTotal }
+{}
+
+/// Whatever is declared, in every valuation, a term and its normal form have one value.
+pub fn normal_forms_keep_values()
+    ensures { NormalFormsKeepValues }
+{}
