@@ -2,3 +2,4 @@ pub mod Order
 pub mod Numbers
 pub mod Worth
 pub mod Kept
+pub mod Stay

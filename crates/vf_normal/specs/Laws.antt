@@ -8,6 +8,7 @@ use Rattle.vf_closure.specs.Terms.{Term}
 use Rattle.vf_closure.specs.Values.{value}
 use Rattle.vf_normal.specs.Order.{compare}
 use Rattle.vf_normal.specs.Normal.{normal}
+use Rattle.vf_normal.specs.NormalForms.{IsNormal}
 
 -- whatever is declared, in every valuation, a term and its normal form have one value
 abbrev pub NormalFormsKeepValues : Type 0
@@ -17,6 +18,6 @@ NormalFormsKeepValues = (i : Interpretation) (v : Valuation) (t : Term) → valu
 abbrev pub OrderIsTotal : Type 0
 OrderIsTotal = IsTotalOrder compare × ((t u : Term) → compare t u ≡ order.Equal ↔ t ≡ u)
 
--- a normal form is its own normal form
+-- a term that looks normal, with all its subterms, is its own normal form
 abbrev pub NormalFormsStay : Type 0
-NormalFormsStay = (t : Term) → normal (normal t) ≡ normal t
+NormalFormsStay = (t : Term) → IsNormal t → normal t ≡ t

@@ -1,5 +1,6 @@
 pub mod Order
 pub mod Sums
 pub mod Normal
+pub mod NormalForms
 pub mod Laws
 pub mod Examples

@@ -1,6 +1,6 @@
 //! Laws of normal forms. Each function does nothing; its contract is the law.
 
-ghost use Rattle.vf_normal.specs.Laws.{NormalFormsKeepValues, OrderIsTotal};
+ghost use Rattle.vf_normal.specs.Laws.{NormalFormsKeepValues, NormalFormsStay, OrderIsTotal};
 
 /// The order of terms is total, and terms that it takes for equal are one term.
 pub fn order_is_total()
@@ -10,4 +10,9 @@ pub fn order_is_total()
 /// Whatever is declared, in every valuation, a term and its normal form have one value.
 pub fn normal_forms_keep_values()
     ensures { NormalFormsKeepValues }
+{}
+
+/// A term that looks normal, with all its subterms, is its own normal form.
+pub fn normal_forms_stay()
+    ensures { NormalFormsStay }
 {}
