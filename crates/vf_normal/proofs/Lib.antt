@@ -3,3 +3,4 @@ pub mod Numbers
 pub mod Worth
 pub mod Kept
 pub mod Stay
+pub mod Reached

@@ -164,7 +164,7 @@ over_stays (Share x) ts l = ap share (all_factors x ts l)
 over_stays h ts l = refl
 
 mutual
-  stays : (t : Term) → IsNormal t → normal t ≡ t
+  pub stays : (t : Term) → IsNormal t → normal t ≡ t
   stays (term h ts) n = ap (normal_over h) (all_stay ts n.1) ∙ over_stays h ts n.0
 
   all_stay : (ts : Terms) → AllNormal ts → all_normal ts ≡ ts

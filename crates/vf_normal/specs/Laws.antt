@@ -21,3 +21,7 @@ OrderIsTotal = IsTotalOrder compare × ((t u : Term) → compare t u ≡ order.E
 -- a term that looks normal, with all its subterms, is its own normal form
 abbrev pub NormalFormsStay : Type 0
 NormalFormsStay = (t : Term) → IsNormal t → normal t ≡ t
+
+-- the normal form of each term looks normal, with all its subterms, and so it is its own normal form
+abbrev pub NormalFormsLookNormal : Type 0
+NormalFormsLookNormal = ((t : Term) → IsNormal (normal t)) × ((t : Term) → normal (normal t) ≡ normal t)

@@ -1,6 +1,6 @@
 //! Laws of normal forms. Each function does nothing; its contract is the law.
 
-ghost use Rattle.vf_normal.specs.Laws.{NormalFormsKeepValues, NormalFormsStay, OrderIsTotal};
+ghost use Rattle.vf_normal.specs.Laws.{NormalFormsKeepValues, NormalFormsLookNormal, NormalFormsStay, OrderIsTotal};
 
 /// The order of terms is total, and terms that it takes for equal are one term.
 pub fn order_is_total()
@@ -15,4 +15,9 @@ pub fn normal_forms_keep_values()
 /// A term that looks normal, with all its subterms, is its own normal form.
 pub fn normal_forms_stay()
     ensures { NormalFormsStay }
+{}
+
+/// The normal form of each term looks normal, with all its subterms, and is its own normal form.
+pub fn normal_forms_look_normal()
+    ensures { NormalFormsLookNormal }
 {}

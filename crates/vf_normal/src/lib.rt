@@ -8,4 +8,6 @@ mod examples;
 mod laws;
 
 pub use examples::normal_forms_in_examples;
-pub use laws::{normal_forms_keep_values, normal_forms_stay, order_is_total};
+pub use laws::{
+    normal_forms_keep_values, normal_forms_look_normal, normal_forms_stay, order_is_total,
+};
