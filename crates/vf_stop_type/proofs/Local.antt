@@ -48,17 +48,17 @@ LikeAt b q ts (Err f) = Kept b f → Stopped q ts f
 pub record Does {A : Type 0} (b : Bool) (p q : Parser A) : Type 0 where
   pub run : (ts : List Token) → LikeAt b q ts (p ts)
 
-first_front : (used r s : List Token) → first r ≡ first s → first (used ++ r) ≡ first (used ++ s)
+pub first_front : (used r s : List Token) → first r ≡ first s → first (used ++ r) ≡ first (used ++ s)
 first_front [] r s h = h
 first_front (t ∷ used) r s h = refl
 
-first_has : (more : Token → Bool) (r s : List Token) → first r ≡ first s → head_has more r ≡ head_has more s
+pub first_has : (more : Token → Bool) (r s : List Token) → first r ≡ first s → head_has more r ≡ head_has more s
 first_has more [] [] h = refl
 first_has more [] (t ∷ s) h = absurd cc
 first_has more (t ∷ r) [] h = absurd cc
 first_has more (t ∷ r) (u ∷ s) h = let e : t ≡ u = cc in ap (λ (v : Token). more v) e
 
-after : {A B : Type 0} (b : Bool) (q : Parser A) (g : A → Parser B) (ts : List Token) (a : A) (mid : List Token) → Went q ts a mid → (r : Read B) → LikeAt b (g a) mid r → LikeAt b (λ us. q us >>= λ x. g x.0 x.1) ts r
+pub after : {A B : Type 0} (b : Bool) (q : Parser A) (g : A → Parser B) (ts : List Token) (a : A) (mid : List Token) → Went q ts a mid → (r : Read B) → LikeAt b (g a) mid r → LikeAt b (λ us. q us >>= λ x. g x.0 x.1) ts r
 after b q g ts a mid w (Ok y) v = record {
   used = w.used ++ v.used;
   parts = w.parts ∙ ap (λ (l : List Token). w.used ++ l) v.parts ∙ sym (append_assoc w.used v.used y.1);
@@ -72,7 +72,7 @@ after b q g ts a mid w (Err f) v = λ k. let s = v k in record {
   alike = λ r h. rw (append_assoc w.used s.used r, w.alike (s.used ++ r) (first_front s.used r s.rest h ∙ ap first (sym s.parts))) (s.alike r h);
 }
 
-bind_like : {A B : Type 0} (b : Bool) (q : Parser A) (f g : A → Parser B) (ts : List Token) (r : Read A) → LikeAt b q ts r → ((a : A) → Does b (f a) (g a)) → LikeAt b (λ us. q us >>= λ x. g x.0 x.1) ts (r >>= λ x. f x.0 x.1)
+pub bind_like : {A B : Type 0} (b : Bool) (q : Parser A) (f g : A → Parser B) (ts : List Token) (r : Read A) → LikeAt b q ts r → ((a : A) → Does b (f a) (g a)) → LikeAt b (λ us. q us >>= λ x. g x.0 x.1) ts (r >>= λ x. f x.0 x.1)
 bind_like b q f g ts (Ok x) w h = after b q g ts x.0 x.1 w (f x.0 x.1) ((h x.0).run x.1)
 bind_like b q f g ts (Err e) s h = λ k. let t = s k in record { used = t.used; rest = t.rest; parts = t.parts; left = t.left; alike = λ r e'. rw (t.alike r e') refl }
 
