@@ -1,0 +1,9 @@
+pub mod Heads
+pub mod OperandsAlike
+pub mod Beyond
+pub mod PrimaryAlike
+pub mod Casts
+pub mod Refused
+pub mod Reached
+pub mod ExprAlike
+pub mod Stops
