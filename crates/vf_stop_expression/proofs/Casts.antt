@@ -22,7 +22,7 @@ unfolding mark
 mark_seen m t ts h = mark_front Real m (t ∷ ts) ts (rw h refl)
 
 -- the second token is the same where one was used
-front_1 : (used us rest : List Token) → first us ≡ first rest → 1 ≤ length used → first (after (used ++ us)) ≡ first (after (used ++ rest))
+pub front_1 : (used us rest : List Token) → first us ≡ first rest → 1 ≤ length used → first (after (used ++ us)) ≡ first (after (used ++ rest))
 front_1 [] us rest h le = absurd (omega (arith, le))
 front_1 (t ∷ used) us rest h le = first_front used us rest h
 
@@ -34,7 +34,7 @@ front_3 : (used us rest : List Token) → first us ≡ first rest → 3 ≤ leng
 front_3 [] us rest h le = absurd (omega (arith, le))
 front_3 (t ∷ used) us rest h le = front_2 used us rest h (omega (arith, le))
 
-and_same : (a c x y : Bool) → a ≡ x → (x ≡ true → c ≡ y) → (a && c) ≡ (x && y)
+pub and_same : (a c x y : Bool) → a ≡ x → (x ≡ true → c ≡ y) → (a && c) ≡ (x && y)
 and_same a c true y h k = rw (h, k refl) refl
 and_same a c false y h k = rw h refl
 

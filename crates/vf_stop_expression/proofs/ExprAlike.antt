@@ -88,7 +88,7 @@ named_primary e f t ts h =
     let s = name_seen t ts h in
     rw (s.numbers_are, s.characters_are, s.words_are keywords.True, s.words_are keywords.False, s.words_are keywords.Malloc, s.names_are, name_taken t ts h) refl
 
-named_post : (e f : Parser ExprTree) (t : Token) (ts : List Token) → is_name Real t ≡ true → post_at e f (t ∷ ts) ≡ (parts_at e ts >>= λ xs. ok (posted t.place (tree.name_ t.place t.text) xs.0) xs.1)
+pub named_post : (e f : Parser ExprTree) (t : Token) (ts : List Token) → is_name Real t ≡ true → post_at e f (t ∷ ts) ≡ (parts_at e ts >>= λ xs. ok (posted t.place (tree.name_ t.place t.text) xs.0) xs.1)
 unfolding post_at here_at
 named_post e f t ts h = rw (named_primary e f t ts h) refl
 

@@ -8,8 +8,8 @@ use Rattle.vf_syntax.specs.declared.side.Side.TheVariants.{Real}
 use Rattle.vf_syntax.specs.declared.operator.Level.{Level}
 use Rattle.vf_cursor.specs.declared.fault.Fault.TheVariants.{Syntax}
 use Rattle.vf_cursor.specs.Parsing.{Parser, told_by, next_by, is_there, found_at, kind_at, number_at, character_at, number_of, character_of, punctuator_of}
-use Rattle.vf_syntax.specs.Written.{unary_of, binary_of}
-use Rattle.vf_cursor.specs.Types.{next_on, next_unary, found_then, on_level}
+use Rattle.vf_syntax.specs.Written.{unary_of, binary_of, assignment_of, step_of}
+use Rattle.vf_cursor.specs.Types.{next_on, next_unary, next_assignment, next_step, found_then, on_level}
 use Rattle.vf_stop_type.specs.Stops.{first}
 use Rattle.vf_stop_type.proofs.Local.{LikeAt, Does}
 use Rattle.vf_stop_type.proofs.LoopAlike.{transfer}
@@ -38,17 +38,29 @@ pub level_hangs : (l : Level) → Hangs (next_on Real l)
 unfolding next_on
 level_hangs l r s h = ap (λ o. found_then (found_then o binary_of) (on_level l)) (next_hangs Real punctuator_of r s h)
 
+pub assignment_hangs : Hangs next_assignment
+unfolding next_assignment
+assignment_hangs r s h = ap (λ o. found_then o assignment_of) (next_hangs Real punctuator_of r s h)
+
+pub step_hangs : Hangs next_step
+unfolding next_step
+step_hangs r s h = ap (λ o. found_then o step_of) (next_hangs Real punctuator_of r s h)
+
 -- a choice by what hangs on the first token
 pub found_like : {A X : Type 0} {b : Bool} (look : List Token → X) → Hangs look → (p q : X → Parser A) → ((x : X) → Does b (p x) (q x)) → Does b (λ ts. p (look ts) ts) (λ ts. q (look ts) ts)
 found_like {b = b} look hangs p q h = record { run = λ ts. transfer b (q (look ts)) (λ us. q (look us) us) ts (p (look ts) ts) (λ us e. ap (λ x. q x us) (hangs us ts e)) ((h (look ts)).run ts) }
 
-by_test : {A : Type 0} (b v : Bool) (p1 q1 p2 q2 : Parser A) → Does b p1 q1 → Does b p2 q2 → Does b (λ ts. if v then p1 ts else p2 ts) (λ ts. if v then q1 ts else q2 ts)
-by_test b true p1 q1 p2 q2 h1 h2 = record { run = λ ts. h1.run ts }
-by_test b false p1 q1 p2 q2 h1 h2 = record { run = λ ts. h2.run ts }
+by_value : {A : Type 0} (b v : Bool) (p1 q1 p2 q2 : Parser A) → Does b p1 q1 → Does b p2 q2 → Does b (λ ts. if v then p1 ts else p2 ts) (λ ts. if v then q1 ts else q2 ts)
+by_value b true p1 q1 p2 q2 h1 h2 = record { run = λ ts. h1.run ts }
+by_value b false p1 q1 p2 q2 h1 h2 = record { run = λ ts. h2.run ts }
+
+-- a choice by what was read
+pub fixed_like : {A : Type 0} {b : Bool} {p1 q1 p2 q2 : Parser A} (v : Bool) → Does b p1 q1 → Does b p2 q2 → Does b (λ ts. if v then p1 ts else p2 ts) (λ ts. if v then q1 ts else q2 ts)
+fixed_like {b = b} {p1 = p1} {q1 = q1} {p2 = p2} {q2 = q2} v h1 h2 = by_value b v p1 q1 p2 q2 h1 h2
 
 -- a choice of two by what hangs on the first token
 pub test_like : {A : Type 0} {b : Bool} {p1 q1 p2 q2 : Parser A} (look : List Token → Bool) → Hangs look → Does b p1 q1 → Does b p2 q2 → Does b (λ ts. if look ts then p1 ts else p2 ts) (λ ts. if look ts then q1 ts else q2 ts)
-test_like {b = b} {p1 = p1} {q1 = q1} {p2 = p2} {q2 = q2} look hangs h1 h2 = found_like look hangs (λ v ts. if v then p1 ts else p2 ts) (λ v ts. if v then q1 ts else q2 ts) (λ v. by_test b v p1 q1 p2 q2 h1 h2)
+test_like {b = b} {p1 = p1} {q1 = q1} {p2 = p2} {q2 = q2} look hangs h1 h2 = found_like look hangs (λ v ts. if v then p1 ts else p2 ts) (λ v ts. if v then q1 ts else q2 ts) (λ v. by_value b v p1 q1 p2 q2 h1 h2)
 
 kind_none : {A : Type 0} (s : Side) (f : Kind → Option A) (r : List Token) → first r ≡ None → kind_at s f r ≡ Err (Syntax (length r))
 kind_none s f [] h = refl

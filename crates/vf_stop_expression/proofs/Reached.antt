@@ -38,7 +38,7 @@ name_taken t ts h = rw h refl
 pub beyond_then : {A B : Type 0} (j n : ℕ) (r : Read A) (a : A) (mid : List Token) (g : A → Parser B) → r ≡ ok a mid → length mid + j ≤ n → Bounded (g a) → Beyond j (r >>= λ x. g x.0 x.1) n
 beyond_then {A = A} j n r a mid g e le hg = subst (λ (s : Read A). Beyond j (s >>= λ x. g x.0 x.1) n) (sym e) (further 0 j (length mid) n (g a mid) (omega (arith, le)) (hg.bound mid))
 
-form_name : (t : Token) (ts : List Token) → is_name Real t ≡ true → Beyond 1 (type_form_at Real (t ∷ ts)) (suc (length ts))
+pub form_name : (t : Token) (ts : List Token) → is_name Real t ≡ true → Beyond 1 (type_form_at Real (t ∷ ts)) (suc (length ts))
 unfolding type_form_at
 form_name t ts h =
     let f = name_seen t ts h in
@@ -52,7 +52,7 @@ form_star t s ts h k =
     let f = name_seen t (s ∷ ts) h in
     rw (f.words_are keywords.Bool, f.words_are keywords.Void, f.words_are keywords.Struct, f.names_are, name_taken t (s ∷ ts) h, mark_taken punctuators.Star s ts k) (omega arith)
 
-type_of_form : (j : ℕ) (t : Token) (ts : List Token) → Beyond j (type_form_at Real (t ∷ ts)) (suc (length ts)) → Beyond j (ctype_at Real (t ∷ ts)) (suc (length ts))
+pub type_of_form : (j : ℕ) (t : Token) (ts : List Token) → Beyond j (type_form_at Real (t ∷ ts)) (suc (length ts)) → Beyond j (ctype_at Real (t ∷ ts)) (suc (length ts))
 unfolding ctype_at here_at
 type_of_form j t ts h = beyond_bind j (suc (length ts)) (type_form_at Real (t ∷ ts)) (λ f. ok (record { place = t.place; form = f })) h (λ f. bounded (done_like (record { place = t.place; form = f })))
 

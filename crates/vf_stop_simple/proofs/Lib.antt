@@ -1,0 +1,2 @@
+pub mod SimplesAlike
+pub mod Stops
