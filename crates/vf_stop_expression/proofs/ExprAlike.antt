@@ -78,7 +78,7 @@ deep_at : {A : Type 0} (q : Parser A) (ts : List Token) (v : Bool) → (v ≡ fa
 deep_at q ts true h = λ k. absurd cc
 deep_at q ts false h = λ k. record { used = []; rest = ts; parts = refl; left = refl; alike = h refl }
 
-deep_like : {A : Type 0} (begins : List Token → Bool) (q : Parser A) → Hangs begins → ((ts : List Token) → begins ts ≡ false → Refuses q ts) → Does false (λ ts. too_deep (begins ts) ts) q
+pub deep_like : {A : Type 0} (begins : List Token → Bool) (q : Parser A) → Hangs begins → ((ts : List Token) → begins ts ≡ false → Refuses q ts) → Does false (λ ts. too_deep (begins ts) ts) q
 deep_like begins q hangs h = record { run = λ ts. deep_at q ts (begins ts) (λ none us same. h us (hangs us ts same ∙ none)) }
 
 -- from a name on, an operand is read as a primary expression

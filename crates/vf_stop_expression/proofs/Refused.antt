@@ -27,22 +27,22 @@ mark_refuses m [] h = refl
 mark_refuses m (t ∷ ts) h = rw h refl
 
 -- behind its place nothing was taken
-here_refuses : {A B : Type 0} (p : Parser A) (g : Place → A → Parser B) (ts : List Token) → Refuses p ts → Refuses (λ us. here_at us >>= λ h. p h.1 >>= λ a. g h.0 a.0 a.1) ts
+pub here_refuses : {A B : Type 0} (p : Parser A) (g : Place → A → Parser B) (ts : List Token) → Refuses p ts → Refuses (λ us. here_at us >>= λ h. p h.1 >>= λ a. g h.0 a.0 a.1) ts
 unfolding here_at
 here_refuses p g [] e = refl
 here_refuses p g (t ∷ ts) e = rw e refl
 
 -- the tests of what begins a primary expression, each failed
-record Unseen (ts : List Token) : Type 0 where
-  number : is_there (next_by Real number_of ts) ≡ false
-  character : is_there (next_by Real character_of ts) ≡ false
-  truth : head_has (is_word Real keywords.True) ts ≡ false
-  falsity : head_has (is_word Real keywords.False) ts ≡ false
-  malloc : head_has (is_word Real keywords.Malloc) ts ≡ false
-  name : head_has (is_name Real) ts ≡ false
-  open_ : head_has (is_mark Real punctuators.OpenParenthesis) ts ≡ false
+pub record Unseen (ts : List Token) : Type 0 where
+  pub number : is_there (next_by Real number_of ts) ≡ false
+  pub character : is_there (next_by Real character_of ts) ≡ false
+  pub truth : head_has (is_word Real keywords.True) ts ≡ false
+  pub falsity : head_has (is_word Real keywords.False) ts ≡ false
+  pub malloc : head_has (is_word Real keywords.Malloc) ts ≡ false
+  pub name : head_has (is_name Real) ts ≡ false
+  pub open_ : head_has (is_mark Real punctuators.OpenParenthesis) ts ≡ false
 
-unseen : (ts : List Token) → sees_primary ts ≡ false → Unseen ts
+pub unseen : (ts : List Token) → sees_primary ts ≡ false → Unseen ts
 unfolding sees_primary
 unseen ts h =
     let a = or_parts (is_there (next_by Real number_of ts)) _ h in
@@ -65,7 +65,7 @@ primary_refuses : (e f : Parser ExprTree) (ts : List Token) → Unseen ts → Re
 unfolding primary_at
 primary_refuses e f ts u = rw (u.number, u.character) (word_primary_refuses e f ts u)
 
-post_refuses : (e f : Parser ExprTree) (ts : List Token) → Unseen ts → Refuses (post_at e f) ts
+pub post_refuses : (e f : Parser ExprTree) (ts : List Token) → Unseen ts → Refuses (post_at e f) ts
 unfolding post_at
 post_refuses e f ts u = here_refuses (primary_at e f) _ ts (primary_refuses e f ts u)
 

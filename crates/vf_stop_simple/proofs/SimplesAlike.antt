@@ -129,7 +129,7 @@ unstepped : (t : Token) (ts : List Token) → is_name Real t ≡ true → next_s
 unfolding next_step
 unstepped t ts h = rw ((name_seen t ts h).next_is) refl
 
-simple_name : {e g : Parser ExprTree} (f : Parser ExprTree) → Does false e g → Named f → (ts : List Token) → head_has (is_name Real) ts ≡ true → Beyond 1 (simple_at e f ts) (length ts)
+pub simple_name : {e g : Parser ExprTree} (f : Parser ExprTree) → Does false e g → Named f → (ts : List Token) → head_has (is_name Real) ts ≡ true → Beyond 1 (simple_at e f ts) (length ts)
 unfolding simple_at
 simple_name f he hf [] h = absurd cc
 simple_name {e = e} f he hf (t ∷ ts) h =

@@ -1,0 +1,2 @@
+pub mod StmtAlike
+pub mod Stops
