@@ -1,5 +1,5 @@
 -- Statements stop alike on tokens that are alike, where the parsers of annotations do.
-use Rattle.std.proofs.Common.{◌≡◌, ℕ, zero, suc, ◌+◌, ◌≤◌, ◌<◌, Bool, true, false, ◌||◌, ◌&&◌, List, [], ◌∷◌, length, Option, Some, None, Err, refl, ap, ◌∙◌, arith}
+use Rattle.std.proofs.Common.{◌≡◌, ℕ, zero, suc, ◌≤◌, Bool, true, false, ◌||◌, List, [], ◌∷◌, length, Option, Some, None, refl, ap, ◌∙◌, arith}
 use Rattle.std.specs.Prelude.{if◌then◌else◌}
 use Rattle.std.proofs.lemmas.Bool.{or_parts}
 use Rattle.vf_base.specs.declared.place.Place.{Place}
@@ -8,7 +8,6 @@ use Rattle.vf_lexer.specs.declared.token.Token.{Token}
 use Rattle.vf_syntax.specs.declared.keyword.Keyword.TheVariants as keywords
 use Rattle.vf_syntax.specs.declared.side.Side.TheVariants.{Real, Ghost}
 use Rattle.vf_syntax.specs.declared.side.Grammar.{Grammar}
-use Rattle.vf_syntax.specs.declared.side.Grammar.TheVariants as grammars
 use Rattle.vf_syntax.specs.declared.contract.Invariant.{Invariant}
 use Rattle.vf_syntax.specs.declared.simple.Simple.{Simple}
 use Rattle.vf_syntax.specs.declared.simple.First.{First}
@@ -20,7 +19,6 @@ use Rattle.vf_syntax.specs.StmtTree as tree
 use Rattle.vf_syntax.specs.Walks.{head_has, is_on, is_mark, is_word, is_name}
 use Rattle.vf_cursor.specs.Parsing.{Parser, ok, ◌>>=◌, here_at, mark_at, is_there}
 use Rattle.vf_cursor.specs.Types.{is_type_word, next_step}
-use Rattle.vf_parse_expression.specs.Operands.{sees_primary}
 use Rattle.vf_parse_expression.specs.Parsers.{expr_at, factor_at, postfix_at}
 use Rattle.vf_parse_simple.specs.Simples.{sees_declaration, declared_at, optional_value_at, simple_at}
 use Rattle.vf_parse_statement.specs.declared.flat.Parts.{Parts}
@@ -31,8 +29,8 @@ use Rattle.vf_full_statement.proofs.Begins.{stmt_eats}
 use Rattle.vf_stop_type.proofs.Local.{LikeAt, Does, then_like, done_like, here_like, mark_like, word_like, choice_like, both_like, first_has}
 use Rattle.vf_stop_type.proofs.LoopAlike.{Takes, items_like}
 use Rattle.vf_stop_expression.proofs.Heads.{Hangs, fixed_like, step_hangs}
-use Rattle.vf_stop_expression.proofs.Beyond.{Beyond, bounded, beyond_bind, seen_like}
-use Rattle.vf_stop_expression.proofs.Refused.{Refuses, here_refuses, Unseen, unseen, post_refuses, primary_hangs}
+use Rattle.vf_stop_expression.proofs.Beyond.{bounded, beyond_bind, seen_like}
+use Rattle.vf_stop_expression.proofs.Refused.{Refuses, here_refuses, unseen, post_refuses, primary_hangs}
 use Rattle.vf_stop_expression.proofs.ExprAlike.{deep_like, expr_like, postfix_like}
 use Rattle.vf_stop_simple.proofs.SimplesAlike.{Named, declared_like, optional_value_like, simple_like, first_like, declaration_told, declared_name, simple_name, post_named}
 

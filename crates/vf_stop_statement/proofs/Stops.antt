@@ -1,5 +1,5 @@
 -- Where a token is refused, no statement could go on.
-use Rattle.std.proofs.Common.{◌≡◌, ℕ, ◌+◌, ◌≤◌, Bool, true, false, List, Some, Err, sym, ◌∙◌, arith}
+use Rattle.std.proofs.Common.{◌≡◌, ℕ, ◌+◌, false, List, Some, Err, sym, ◌∙◌, arith}
 use Rattle.vf_lexer.specs.declared.token.Token.{Token}
 use Rattle.vf_syntax.specs.declared.keyword.Keyword.TheVariants.{Else}
 use Rattle.vf_syntax.specs.declared.side.Side.TheVariants.{Real, Ghost}
@@ -10,7 +10,6 @@ use Rattle.vf_syntax.specs.Walks.{head_has, is_word}
 use Rattle.vf_syntax.specs.Statements.{stmt, stmt_nesting, stmts_nesting}
 use Rattle.vf_syntax.specs.Units.{body}
 use Rattle.vf_cursor.specs.declared.fault.Fault.TheVariants.{Syntax}
-use Rattle.vf_cursor.specs.Parsing.{Parser}
 use Rattle.vf_parse_statement.specs.Annotations.{reads_none}
 use Rattle.vf_parse_statement.specs.NoGhosts.{no_commands, no_invariants}
 use Rattle.vf_parse_statement.specs.Parsers.{stmt_at, body_at}

@@ -1,5 +1,5 @@
 -- Where a token is refused, no statement could go on.
-use Rattle.std.specs.Prelude.{◌≡◌, ℕ, Bool, false, List, Some, Err}
+use Rattle.std.specs.Prelude.{◌≡◌, ℕ, false, List, Some, Err}
 use Rattle.vf_lexer.specs.declared.token.Token.{Token}
 use Rattle.vf_syntax.specs.declared.keyword.Keyword.TheVariants.{Else}
 use Rattle.vf_syntax.specs.declared.side.Side.TheVariants.{Real, Ghost}
