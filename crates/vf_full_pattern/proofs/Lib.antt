@@ -1,0 +1,3 @@
+pub mod Wild
+pub mod SharesFull
+pub mod PatternsFull
