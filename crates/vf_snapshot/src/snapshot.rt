@@ -124,6 +124,13 @@ impl Snapshot {
         }
     }
 
+    /// How many paths something is known of.
+    pub fn len(&self) -> usize
+        ensures { result ≡ length self.now }
+    {
+        self.entries.len()
+    }
+
     /// The path of a file.
     pub fn path(&self, file: u32) -> &str
         requires { file < length self.now }

@@ -82,6 +82,7 @@ fn bytes_and_paths(rt: HostRuntime) -> Result<(), Fail> {
     let number = snapshot.keep("<a.h>", b"one")?;
     assert!(rt; snapshot.bytes(number) == b"one".as_slice());
     assert_eq!(rt; snapshot.path(number), "<a.h>");
+    assert_eq!(rt; snapshot.len(), 1);
     Ok(())
 }
 
