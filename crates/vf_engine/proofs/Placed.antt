@@ -1,5 +1,5 @@
 -- A list of threads with one of them changed.
-use Rattle.std.proofs.Common.{◌≡◌, ℕ, List, map, Some, slice_get, get_or, slice_set, sym, ap, ◌∙◌}
+use Rattle.std.proofs.Common.{◌≡◌, ℕ, List, map, get_or, slice_set, sym, ap, ◌∙◌}
 use Rattle.std.proofs.lemmas.List.{map-set, set-get_or}
 
 -- what stands at the index is what was put there

@@ -1,5 +1,7 @@
 pub mod Values
 pub mod Evaluated
+pub mod Held
+pub mod Shelves
 pub mod Taken
 pub mod Memories
 pub mod Cells

@@ -1,6 +1,6 @@
 -- What the blocks of the code stand for.
-use Rattle.std.specs.Prelude.{ℕ, List, map, Option, Some, slice_set}
-use Rattle.std.specs.FinMap.{FinMap, from_entries}
+use Rattle.std.specs.Prelude.{◌≡◌, ℕ, List, map, Some, slice_set}
+use Rattle.std.specs.FinMap.{from_entries}
 use Rattle.std.specs.Ordering.{nat_cmp}
 use Rattle.vf_tree.specs.Core.{Identity}
 use Rattle.vf_model.specs.Values as values
@@ -8,9 +8,11 @@ use Rattle.vf_model.specs.Memory as model
 use Rattle.vf_model.specs.Memory.{Memory, with_cells}
 use Rattle.vf_core.specs.Shown.{identity_of}
 use Rattle.vf_engine.specs.Values.{value_of, cells_of}
+use Rattle.vf_engine.specs.declared.value.Value.{Value}
 use Rattle.vf_engine.specs.declared.blocks.Block.{Block}
 use Rattle.vf_engine.specs.declared.blocks.Block.TheVariants as blocks
 use Rattle.vf_engine.specs.declared.blocks.Blocks.{Blocks}
+use Rattle.vf_engine.specs.Shelves.{blocks_on}
 
 -- a block, by the table of names
 abbrev pub block_of : List Identity → Block → model.Block
@@ -25,8 +27,12 @@ entry_of names e = (e.0, block_of names e.1)
 
 -- the blocks, by number
 abbrev pub memory_of : List Identity → Blocks → Memory
-memory_of names blocks = from_entries {R = nat_cmp} (map (entry_of names) blocks.map.entries)
+memory_of names blocks = from_entries {R = nat_cmp} (map (entry_of names) (blocks_on blocks.shelf))
 
 -- a block with a value in a cell, where it has that cell
 abbrev pub set_in : model.Block → ℕ → values.Value → model.Block
 set_in block index v = with_cells block (slice_set (model.cells_of block) index (Some v))
+
+-- by each table of names, a block is another one with a value in a cell, where it has that cell
+abbrev pub IsSet : ℕ → Value → Block → Block → Type 0
+IsSet index v block changed = (names : List Identity) → block_of names changed ≡ set_in (block_of names block) index (value_of names v)

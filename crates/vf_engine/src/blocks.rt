@@ -1,17 +1,20 @@
 //! Blocks, by their numbers.
 
-ghost use Rattle.std.specs.Prelude.{◌≡◌, ◌≤◌, ◌<◌, not, List, [], Some, IsSome, IfOk, OnOk, OnErr};
+ghost use Rattle.std.specs.Prelude.{◌≡◌, ◌+◌, ◌*◌, ◌≤◌, ◌<◌, not, List, [], is_some, IsSome, IfSome, IfNone, IfOk, OnOk, OnErr};
 ghost use Rattle.std.specs.Option.{option_map, option_copied};
 ghost use Rattle.std.specs.FinMap as finite;
+ghost use Rattle.std.specs.FinMap.{from_entries};
+ghost use Rattle.std.specs.Ordering.{nat_cmp};
 ghost use Rattle.vf_tree.specs.Core.{Identity};
-ghost use Rattle.vf_model.specs.Memory.{block_at, pointed_at, written, granted_block, IsLeastFree};
+ghost use Rattle.vf_model.specs.Memory.{block_at, pointed_at, written, granted_block};
 ghost use Rattle.vf_engine.specs.Values.{value_of};
-ghost use Rattle.vf_engine.specs.Taken.{AreTaken};
+ghost use Rattle.vf_engine.specs.Shelves.{block_on, blocks_on};
+ghost use Rattle.vf_engine.specs.Taken.{AreTaken, AreCounted, IsFirstFree};
 
+use crate::groups::{GROUP, GROUPS, Groups};
+use crate::shelf::Shelf;
 use crate::value::Value;
-use crate::writing::set_cell;
 use std::alloc::Global;
-use std::collections::BTreeMap;
 use vf_base::Memory;
 use vf_core::Name;
 
@@ -35,14 +38,18 @@ pub enum Block {
     },
 }
 
-/// The allocated blocks, and a number below which none is free: where the search for the least free
-/// number begins.
+/// The allocated blocks, how many there are, how many numbers of each group are taken, and a number
+/// below which none is free: where the search for the least free number begins.
 #[derive(Debug, Drop)]
 pub struct Blocks {
-    pub map: BTreeMap<u32, Block>,
+    pub(crate) shelf: Shelf,
+    count: usize,
+    groups: Groups,
     pub(crate) least: u32,
+    ghost counted: { count ≡ finite.len (from_entries {R = nat_cmp} (blocks_on shelf)) },
+    ghost grouped: { AreCounted (block_on shelf) groups.counts.items },
     ghost from_one: { 1 ≤ least },
-    ghost taken: { AreTaken map least },
+    ghost taken: { AreTaken (block_on shelf) least },
 }
 
 impl Blocks {
@@ -53,7 +60,9 @@ impl Blocks {
         ensures { (names : List Identity) → memory_of names result ≡ finite.empty }
     {
         Blocks {
-            map: BTreeMap::new(alloc),
+            shelf: Shelf::new(alloc),
+            count: 0,
+            groups: Groups::new(alloc),
             least: 1,
         }
     }
@@ -62,7 +71,7 @@ impl Blocks {
     pub fn get(&self, number: u32) -> Option<&Block>
         ensures { (names : List Identity) → option_map (block_of names) (option_copied result) ≡ block_at (memory_of names self.now) number }
     {
-        self.map.get(&number)
+        self.shelf.get(number)
     }
 
     /// The block that a value points to the beginning of.
@@ -75,12 +84,28 @@ impl Blocks {
         }
     }
 
+    /// Whether no block has the number.
+    fn is_free(&self, number: u32) -> bool
+        ensures { result ≡ not (is_some (block_on self.now.shelf number)) }
+    {
+        self.shelf.get(number).is_none()
+    }
+
     /// Puts a block at a number.
     pub fn insert(&mut self, number: u32, block: Block) -> Result<(), Memory>
         ensures inserted { OnOk result ((names : List Identity) → memory_of names self.new ≡ finite.insert (memory_of names self.old) number (block_of names block)) }
-        ensures unchanged { OnErr result (self.new.map.entries ≡ self.old.map.entries) }
+        ensures unchanged { OnErr result ((names : List Identity) → memory_of names self.new ≡ memory_of names self.old) }
     {
-        let _old = self.map.insert(number, block)?;
+        if !self.is_free(number) {
+            self.shelf.replace(number, block);
+            return Ok(());
+        }
+        // There are no more blocks than places, so that the count goes on.
+        let _places = self.shelf.places();
+        self.groups.reach(number)?;
+        self.shelf.put(number, block)?;
+        self.count += 1;
+        self.groups.add(number);
         Ok(())
     }
 
@@ -88,24 +113,34 @@ impl Blocks {
     pub fn len(&self) -> usize
         ensures { (names : List Identity) → result ≡ finite.len (memory_of names self.now) }
     {
-        self.map.len()
+        self.count
     }
 
-    /// Whether no block has the number.
-    fn is_free(&self, number: u32) -> bool
-        ensures { (names : List Identity) → finite.contains_key (memory_of names self.now) number ≡ not result }
+    /// The least free number of a group where all numbers below it are taken.
+    fn free_in(&self, group: u32) -> Option<u32>
+        requires below { AreTaken (block_on self.now.shelf) (512 * group) }
+        requires counted { group < 2049 }
+        ensures found { IfSome result (λ number. IsFirstFree (block_on self.now.shelf) number) }
+        ensures full { IfNone result (AreTaken (block_on self.now.shelf) (512 * (group + 1))) }
     {
-        !self.map.contains_key(&number)
+        if self.groups.is_full(group) {
+            return None;
+        }
+        for number in self.least.max(group * GROUP)..(group + 1) * GROUP {
+            if self.is_free(number) {
+                return Some(number);
+            }
+        }
+        None
     }
 
     /// The least free number from 1 on.
     fn least_free(&self) -> u32
         requires { (names : List Identity) → finite.len (memory_of names self.now) < 1048576 }
-        ensures least { (names : List Identity) → IsLeastFree (memory_of names self.now) result }
-        ensures taken { AreTaken self.now.map result }
+        ensures { IsFirstFree (block_on self.now.shelf) result }
     {
-        for number in self.least..u32::MAX {
-            if self.is_free(number) {
+        for group in self.least / GROUP..GROUPS {
+            if let Some(number) = self.free_in(group) {
                 return number;
             }
         }
@@ -143,10 +178,13 @@ impl Blocks {
     pub fn remove(&mut self, number: u32)
         ensures { (names : List Identity) → memory_of names self.new ≡ finite.remove (memory_of names self.old) number }
     {
-        let _old = self.map.remove(&number);
-        if 0 < number && number < self.least {
-            self.least = number;
+        if self.is_free(number) {
+            return;
         }
+        self.shelf.take(number);
+        self.count -= 1;
+        self.groups.subtract(number);
+        self.least = self.least.min(number.max(1));
     }
 
     /// Puts another block in the place of one.
@@ -154,17 +192,13 @@ impl Blocks {
         requires { IsSome (finite.get (memory_of [] self.old) number) }
         ensures { (names : List Identity) → memory_of names self.new ≡ finite.insert (memory_of names self.old) number (block_of names block) }
     {
-        if let Some(old) = self.map.get_mut(&number) {
-            *old = block;
-        }
+        self.shelf.replace(number, block);
     }
 
     /// Writes a cell, where it is there.
     pub fn write(&mut self, number: u32, index: usize, value: Value)
         ensures { (names : List Identity) → memory_of names self.new ≡ written (memory_of names self.old) (record { block = number; index = index }) (value_of names value) }
     {
-        if let Some(block) = self.map.get_mut(&number) {
-            set_cell(block, index, value);
-        }
+        self.shelf.write(number, index, value);
     }
 }

@@ -1,9 +1,6 @@
 -- Effects that take no memory: those of steps that make nothing.
 use Rattle.std.proofs.Common.{◌≡◌, ℕ, ◌+◌, ◌≤◌, Bool, true, false, cond, ◌==◌, List, [], ◌∷◌, ◌++◌, length, Option, Some, None, IsSome, is_some, slice_get, pos, unsigned_abs, refl, sym, ap, subst, ◌∙◌, arith}
 use Rattle.std.specs.FinMap as finite
-use Rattle.std.specs.Option.{option_map}
-use Rattle.std.specs.Ordering.{nat_cmp}
-use Rattle.std.specs.BTreeMap as tree
 use Rattle.std.specs.Fmt.{signed_decimal}
 use Rattle.std.proofs.lemmas.Bool.{false≢true, eqb-true}
 use Rattle.std.proofs.lemmas.List.{length-append}
@@ -17,10 +14,10 @@ use Rattle.vf_model.specs.Steps.{all_values}
 use Rattle.vf_model.specs.Runs.{happens}
 use Rattle.vf_core.specs.Shown.{identity_of, expressions_of}
 use Rattle.vf_engine.specs.Values.{value_of}
-use Rattle.vf_engine.specs.Memories.{block_of, memory_of}
+use Rattle.vf_engine.specs.Memories.{memory_of}
 use Rattle.vf_engine.specs.States.{state_of}
 use Rattle.vf_engine.specs.Effects.{act_of_effect, joinable_found, values_or_none}
-use Rattle.vf_engine.proofs.Maps.{get_mapped}
+use Rattle.vf_engine.proofs.Shelves.{memory_key}
 use Rattle.vf_engine.specs.declared.blocks.Blocks.{Blocks}
 use Rattle.vf_engine.specs.declared.state.Frame as code
 use Rattle.vf_engine.specs.declared.state.Thread.{Thread}
@@ -70,10 +67,6 @@ denied_handle turn run target given next grant (Some f) known h =
     (λ b. receives (over_memory (after_start turn (entered run f (given ∷ []) None)) (finite.insert m b handle)) target (values.Pointer b (pos 0)) next)
     (λ k free. (block_more m k handle free).0) h
 
-same_key : {X Y Z : Type 0} (f : X → Y) (g : X → Z) (o : Option X) → is_some (option_map f o) ≡ is_some (option_map g o)
-same_key f g None = refl
-same_key f g (Some x) = refl
-
 mutex_by : (m : Memory) (k : ℕ) (holder : Option ℕ) (o : Option Block) → finite.get m k ≡ o → finite.len (finite.insert m k (Mutex holder)) ≤ finite.len m → IsSome (finite.get m k)
 mutex_by m k holder (Some w) is few = ap is_some is
 mutex_by m k holder None is few =
@@ -85,9 +78,8 @@ mutex_there : (names : List Identity) (blocks : Blocks) (k : ℕ) (holder : Opti
     → finite.len (finite.insert (memory_of names blocks) k (Mutex holder)) ≤ finite.len (memory_of names blocks) → IsSome (finite.get (memory_of [] blocks) k)
 mutex_there names blocks k holder few =
     let m = memory_of names blocks in
-    ap is_some (get_mapped (block_of []) blocks.map k)
-    ∙ same_key (block_of []) (block_of names) (tree.get nat_cmp blocks.map k)
-    ∙ sym (ap is_some (get_mapped (block_of names) blocks.map k))
+    memory_key [] blocks k
+    ∙ sym (memory_key names blocks k)
     ∙ mutex_by m k holder (finite.get m k) refl few
 
 -- an effect takes no memory where the state after it has no more

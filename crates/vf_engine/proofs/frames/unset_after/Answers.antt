@@ -1,4 +1,4 @@
-use Rattle.std.proofs.Common.{◌≡◌, ◌++◌, [], ◌∷◌, None, sym, ap, ◌∙◌, append_assoc, replicate}
+use Rattle.std.proofs.Common.{◌++◌, [], ◌∷◌, None, ap, ◌∙◌, append_assoc, replicate}
 use Rattle.vf_engine.proofs.Arguments.{replicate_more}
 use Rattle.vf_engine.proofs.frames.unset_after.Goals as goal
 

@@ -1,16 +1,24 @@
-use Rattle.std.proofs.Common.{◌≡◌, [], Some, None, IsSome, sym, ap, subst, ◌∙◌, rules}
-use Rattle.std.specs.Option.{option_map}
-use Rattle.std.specs.Ordering.{nat_cmp}
-use Rattle.std.specs.BTreeMap as tree
-use Rattle.std.proofs.lemmas.Bool.{false≢true}
-use Rattle.vf_engine.specs.Memories.{block_of}
-use Rattle.vf_engine.proofs.Maps.{inserted, get_mapped}
+use Rattle.std.proofs.Common.{[], sym, ◌∙◌}
+use Rattle.vf_engine.specs.Shelves.{block_on}
+use Rattle.vf_engine.proofs.Shelves.{memory_key, put_again, put_still, put_memory}
+use Rattle.vf_engine.proofs.Counts.{counted_still}
 use Rattle.vf_engine.proofs.blocks.Blocks.replace.Goals as goal
 
-pub returns-in-Some : goal.returns-in-Some
-returns-in-Some c = λ names. inserted (block_of names) c.args.self.now.map (c.get_mut.follows.lender c.args.block) c.args.number c.args.block ((c.get_mut.follows.holds c.args.block).3 (search rules)).0
+pub replace-requires : goal.replace-requires
+replace-requires c = sym (memory_key [] c.args.self.now c.args.number) ∙ c.requires
 
-pub returns-in_default : goal.returns-in_default
-returns-in_default c =
-    let none : tree.get nat_cmp c.args.self.now.map c.args.number ≡ None = search rules in
-    absurd (false≢true (subst (λ o. IsSome o) (get_mapped (block_of []) c.args.self.now.map c.args.number ∙ ap (option_map (block_of [])) none) c.requires))
+pub invariant_of-self : goal.invariant_of-self
+invariant_of-self c =
+    let old = c.args.self.now in
+    let t = c.replace.new.self in
+    let k = c.args.number in
+    let still = put_still old.shelf t k c.args.block c.replace.ensures in
+    record {
+      counted = old.counted ∙ sym (put_again old.shelf t k c.args.block c.replace.ensures (sym (memory_key [] old k) ∙ c.requires));
+      grouped = counted_still (block_on old.shelf) (block_on t) old.groups.counts.items still old.grouped;
+      from_one = old.from_one;
+      taken = λ q low high. still q (old.taken q low high);
+    }
+
+pub returns : goal.returns
+returns c = λ names. put_memory names c.args.self.now.shelf c.replace.new.self c.args.number c.args.block c.replace.ensures
