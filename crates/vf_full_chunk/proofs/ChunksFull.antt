@@ -46,7 +46,7 @@ use Rattle.vf_full_chunk.specs.Laws.{goes_on_with_part, is_whole, piece_of, behi
 use Rattle.vf_full_chunk.proofs.Operands.{Next, alone, operator, first_of, seen}
 
 -- arguments as patterns
-as_patterns : GhostExprTrees → List Pattern
+pub as_patterns : GhostExprTrees → List Pattern
 as_patterns no_ghost_expr = []
 as_patterns (more_ghost_expr x xs) = patterns.Is x ∷ as_patterns xs
 
@@ -60,22 +60,22 @@ unfolding as_patterns pattern
 separated_as no_ghost_expr = refl
 separated_as (more_ghost_expr x xs) = ap (λ (W : Walk). ghost_expr x ⨾ W) (more_as xs)
 
-nesting_as : (xs : GhostExprTrees) → ghost_arguments_nesting xs ≡ greatest pattern_nesting (as_patterns xs)
+pub nesting_as : (xs : GhostExprTrees) → ghost_arguments_nesting xs ≡ greatest pattern_nesting (as_patterns xs)
 unfolding as_patterns
 nesting_as no_ghost_expr = refl
 nesting_as (more_ghost_expr x xs) = ap (λ (n : ℕ). max (ghost_nesting x + 1) n) (nesting_as xs)
 
-values_as : (xs : GhostExprTrees) → are_value_patterns (as_patterns xs) ≡ true
+pub values_as : (xs : GhostExprTrees) → are_value_patterns (as_patterns xs) ≡ true
 unfolding as_patterns
 values_as no_ghost_expr = refl
 values_as (more_ghost_expr x xs) = values_as xs
 
-terms_as : (xs : GhostExprTrees) → ghost_expr_list (terms_of (as_patterns xs)) ≡ xs
+pub terms_as : (xs : GhostExprTrees) → ghost_expr_list (terms_of (as_patterns xs)) ≡ xs
 unfolding as_patterns
 terms_as no_ghost_expr = refl
 terms_as (more_ghost_expr x xs) = ap (more_ghost_expr x) (terms_as xs)
 
-arguments_listed : (xs : GhostExprTrees) (ts rest : List Token) → (mark Ghost punctuators.OpenParenthesis ⨾ ghost_arguments xs ⨾ mark Ghost punctuators.CloseParenthesis) ts ≡ Some rest → pattern_list (as_patterns xs) ts ≡ Some rest
+pub arguments_listed : (xs : GhostExprTrees) (ts rest : List Token) → (mark Ghost punctuators.OpenParenthesis ⨾ ghost_arguments xs ⨾ mark Ghost punctuators.CloseParenthesis) ts ≡ Some rest → pattern_list (as_patterns xs) ts ≡ Some rest
 unfolding pattern_list
 arguments_listed xs ts rest h = subst (λ (W : Walk). (mark Ghost punctuators.OpenParenthesis ⨾ W ⨾ mark Ghost punctuators.CloseParenthesis) ts ≡ Some rest) (separated_as xs) h
 
@@ -219,11 +219,11 @@ no_and true c h = h
 no_and false c h = refl
 
 -- what stands behind does not go on with a part
-record Stops (rest : List Token) : Type 0 where
-  no_term : Looser 8 rest
-  no_further : goes_further rest ≡ false
+pub record Stops (rest : List Token) : Type 0 where
+  pub no_term : Looser 8 rest
+  pub no_further : goes_further rest ≡ false
 
-stops : (rest : List Token) → goes_on_with_part rest ≡ false → Stops rest
+pub stops : (rest : List Token) → goes_on_with_part rest ≡ false → Stops rest
 unfolding goes_on_with_part
 stops rest h = let a = or_parts (goes_on_with_term rest) _ h in record { no_term = ended rest a.0; no_further = a.1 }
 
@@ -281,7 +281,7 @@ or_true : (a b : Bool) → (a || true || b) ≡ true
 or_true true b = refl
 or_true false b = refl
 
-arrow_further : (ts : List Token) → Front Ghost (a_mark punctuators.Arrow) ts → goes_further ts ≡ true
+pub arrow_further : (ts : List Token) → Front Ghost (a_mark punctuators.Arrow) ts → goes_further ts ≡ true
 unfolding goes_further
 arrow_further ts f = rw (f.marks_are punctuators.Arrow) (or_true (sees_operator ts) _)
 
@@ -313,19 +313,19 @@ placed p r w ts rest here h =
     let g = gone {g = w} (at r ts) h in
     record { same = (ok_pair r p g.0 ts (sym (here_read r ts g.0 g.1) ∙ here_read p ts ts here)).0; walk = subst (λ us. w us ≡ Some rest) (sym (at_stays r ts g.0 g.1)) g.2 }
 
-pub whole_full : (d : ℕ) (p : Place) (x : PartTree) (ts rest : List Token) → at p ts ≡ Some ts → part x ts ≡ Some rest → is_whole x ≡ true → part_nesting x ≤ d → goes_on_with_part rest ≡ false → begun_at d p ts ≡ ok (begun.Whole (piece_of x)) rest
+pub whole_full : (d : ℕ) (p : Place) (x : PartTree) (ts rest : List Token) → at p ts ≡ Some ts → part x ts ≡ Some rest → is_whole x ≡ true → part_nesting x ≤ d → Stops rest → begun_at d p ts ≡ ok (begun.Whole (piece_of x)) rest
 whole_full d p (tree.chunk r None n xs ys) ts rest here h w deep stop =
     let k = placed p r (name Ghost n ⨾ pattern_list xs ⨾ optional pattern_list ys) ts rest here h in
     let same = k.same in
-    subst (λ (q : Place). begun_at d p ts ≡ ok (begun.Whole (unshared q n xs ys)) rest) (sym same) (chunk_whole d p n xs ys ts rest k.walk (omega (arith, deep)) (omega (arith, deep)) (stops rest stop))
+    subst (λ (q : Place). begun_at d p ts ≡ ok (begun.Whole (unshared q n xs ys)) rest) (sym same) (chunk_whole d p n xs ys ts rest k.walk (omega (arith, deep)) (omega (arith, deep)) stop)
 whole_full d p (tree.chunk r (Some s) n xs ys) ts rest here h w deep stop =
     let k = placed p r (share s ⨾ name Ghost n ⨾ pattern_list xs ⨾ optional pattern_list ys) ts rest here h in
     let same = k.same in
-    subst (λ (q : Place). begun_at d p ts ≡ ok (begun.Whole (pieces.Other (tree.chunk q (Some s) n xs ys))) rest) (sym same) (shared_chunk d p s n xs ys ts rest k.walk (omega (arith, deep)) (omega (arith, deep)) (stops rest stop))
+    subst (λ (q : Place). begun_at d p ts ≡ ok (begun.Whole (pieces.Other (tree.chunk q (Some s) n xs ys))) rest) (sym same) (shared_chunk d p s n xs ys ts rest k.walk (omega (arith, deep)) (omega (arith, deep)) stop)
 whole_full d p (tree.cell r (Some s) e f v) ts rest here h w deep stop =
     let k = placed p r (share s ⨾ ghost_expr e ⨾ mark Ghost punctuators.Arrow ⨾ name Ghost f ⨾ mark Ghost punctuators.PointsTo ⨾ pattern v) ts rest here h in
     let same = k.same in
-    subst (λ (q : Place). begun_at d p ts ≡ ok (begun.Whole (pieces.Other (tree.cell q (Some s) e f v))) rest) (sym same) (shared_cell d p s e f v ts rest k.walk (omega (arith, deep)) (omega (arith, deep)) (stops rest stop))
+    subst (λ (q : Place). begun_at d p ts ≡ ok (begun.Whole (pieces.Other (tree.cell q (Some s) e f v))) rest) (sym same) (shared_cell d p s e f v ts rest k.walk (omega (arith, deep)) (omega (arith, deep)) stop)
 whole_full d p (tree.cell r None e f v) ts rest here h w deep stop = no_true w
 whole_full d p (tree.empty_ r) ts rest here h w deep stop =
     let k = placed p r (word Ghost keywords.Emp) ts rest here h in

@@ -39,7 +39,7 @@ factor_full (factors.Number n ty p) ts rest h =
 factor_full (factors.Name n) ts rest h =
     rw ((name_front n ts rest h).names_are, name_read Ghost n ts rest h) refl
 
-factor_eats : (x : Factor) → Eats (factor x)
+pub factor_eats : (x : Factor) → Eats (factor x)
 factor_eats (factors.Number n ty p) = then_eat (at_keeps p) (number_eats _ n ty)
 factor_eats (factors.Name n) = name_eats _ n
 

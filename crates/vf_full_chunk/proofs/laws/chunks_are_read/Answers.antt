@@ -1,9 +1,9 @@
 use Rattle.vf_full_term.proofs.Behind.{ended}
-use Rattle.vf_full_chunk.proofs.ChunksFull.{whole_full, term_begun, term_ended, cell_ended}
+use Rattle.vf_full_chunk.proofs.ChunksFull.{stops, whole_full, term_begun, term_ended, cell_ended}
 use Rattle.vf_full_chunk.proofs.laws.chunks_are_read.Goals as goal
 
 pub returns-clause-whole : goal.returns-clause-whole
-returns-clause-whole c = whole_full
+returns-clause-whole c = λ d p x ts rest here h w deep free. whole_full d p x ts rest here h w deep (stops rest free)
 
 pub returns-clause-begun : goal.returns-clause-begun
 returns-clause-begun c = λ k d p e ts rest here h deep free further. term_begun k d p e ts rest here h deep (ended rest free) further
