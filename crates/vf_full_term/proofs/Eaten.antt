@@ -49,7 +49,7 @@ mutual
   ghost_links_keep l no_ghost_link = nothing_keeps
   ghost_links_keep l (more_ghost_link x xs) = keep_then (keeps (ghost_link_eats l x)) (ghost_links_keep l xs)
 
-  ghost_arguments_keep : (xs : GhostExprTrees) → Keeps (ghost_arguments xs)
+  pub ghost_arguments_keep : (xs : GhostExprTrees) → Keeps (ghost_arguments xs)
   ghost_arguments_keep no_ghost_expr = nothing_keeps
   ghost_arguments_keep (more_ghost_expr x xs) = keep_then (keeps (term_eats x)) (more_ghost_arguments_keep xs)
 

@@ -113,7 +113,7 @@ term_listed e d he = record {
 pub term_open : (x : GhostExprTree) (ts rest : List Token) → ghost_expr x ts ≡ Some rest → head_has (is_mark Ghost punctuators.CloseParenthesis) ts ≡ false
 term_open x ts rest h = let b = term_begins x ts rest h in b.front.marks_are punctuators.CloseParenthesis ∙ unclosed b.class b.begins
 
-arguments_full : (e : Parser GhostExprTree) (d : ℕ) → Full 1 8 d e → (xs : GhostExprTrees) (ts rest : List Token) → (mark Ghost punctuators.OpenParenthesis ⨾ ghost_arguments xs ⨾ mark Ghost punctuators.CloseParenthesis) ts ≡ Some rest → ghost_arguments_nesting xs ≤ d → arguments_at e ts ≡ ok (expr_items xs) rest
+pub arguments_full : (e : Parser GhostExprTree) (d : ℕ) → Full 1 8 d e → (xs : GhostExprTrees) (ts rest : List Token) → (mark Ghost punctuators.OpenParenthesis ⨾ ghost_arguments xs ⨾ mark Ghost punctuators.CloseParenthesis) ts ≡ Some rest → ghost_arguments_nesting xs ≤ d → arguments_at e ts ≡ ok (expr_items xs) rest
 unfolding arguments_at
 arguments_full e d he xs ts rest h deep =
     let a = gone (mark Ghost punctuators.OpenParenthesis ts) h in

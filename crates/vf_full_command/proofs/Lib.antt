@@ -1,0 +1,4 @@
+pub mod Sorts
+pub mod Begins
+pub mod Flats
+pub mod CommandsFull
