@@ -99,10 +99,10 @@ any_patterns_full d None ts rest h deep stop =
 any_patterns_full d (Some xs) ts rest h deep stop =
     rw ((list_front xs ts rest h).marks_are punctuators.OpenParenthesis, patterns_full d xs ts rest h deep) refl
 
-name_listed : Listed (name Ghost) flat 0 (λ ts. Unit {0}) (name_at Ghost)
+pub name_listed : Listed (name Ghost) flat 0 (λ ts. Unit {0}) (name_at Ghost)
 name_listed = record { full = λ n ts rest h deep u. name_read Ghost n ts rest h; commas = λ ts rest h. tt; eats = λ n. name_eats Ghost n }
 
-all_flat : {A : Type 0} (xs : List A) → greatest flat xs ≤ 0
+pub all_flat : {A : Type 0} (xs : List A) → greatest flat xs ≤ 0
 all_flat [] = omega arith
 all_flat (x ∷ xs) = omega (arith, all_flat xs)
 

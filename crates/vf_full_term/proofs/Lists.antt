@@ -21,7 +21,7 @@ pub record Listed {A : Type 0} (w : A → Walk) (n : A → ℕ) (d : ℕ) (Fine 
   pub eats : (x : A) → Eats (w x)
 
 -- one part and then another, told apart in two ways
-two_ways : (a : Option (List Token)) (f g : Walk) → goes_on a (f ⨾ g) ≡ goes_on (goes_on a f) g
+pub two_ways : (a : Option (List Token)) (f g : Walk) → goes_on a (f ⨾ g) ≡ goes_on (goes_on a f) g
 two_ways None f g = refl
 two_ways (Some ts) f g = refl
 

@@ -195,7 +195,7 @@ type_open ts rest (by_word k f h) = f.marks_are punctuators.CloseParenthesis
 type_open ts rest (by_name mid t u f s one two) = f.marks_are punctuators.CloseParenthesis
 
 -- no sort begins with a closing parenthesis
-sort_open : (x : SortTree) (ts rest : List Token) → sort x ts ≡ Some rest → head_has (is_mark Ghost punctuators.CloseParenthesis) ts ≡ false
+pub sort_open : (x : SortTree) (ts rest : List Token) → sort x ts ≡ Some rest → head_has (is_mark Ghost punctuators.CloseParenthesis) ts ≡ false
 sort_open (tree.real_ p) ts rest h =
     let g = gone (at p ts) h in
     behind_mark p ts g.1 (word_front Ghost _ g.0 rest g.2) refl
