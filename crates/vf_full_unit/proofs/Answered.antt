@@ -19,7 +19,7 @@ use Rattle.vf_full_unit.proofs.UnitFull.{plain_units_read}
 apart : (f : Fault) (xs : List Item) → Err f ≡ ok xs [] → ⊥
 apart f xs e = cc
 
-no_fault : {Y : Type 0} (f : Fault) (xs : List Item) (read : Read (List Item)) → read ≡ Err f → read ≡ ok xs [] → Y
+pub no_fault : {Y : Type 0} (f : Fault) (xs : List Item) (read : Read (List Item)) → read ≡ Err f → read ≡ ok xs [] → Y
 no_fault f xs read h k = absurd (apart f xs (sym h ∙ k))
 
 pub answered : (r : Result FileUnit ParseFault) (end : Place) (u : FileUnit) (ts : List Token) → Answers r end ts (plain_at 128 ts) → Spells Plain 128 u ts → IsRead r u
