@@ -11,7 +11,6 @@ use Rattle.vf_syntax.specs.declared.contract.Contract.{Contract}
 use Rattle.vf_syntax.specs.declared.contract.Invariant.{Invariant}
 use Rattle.vf_syntax.specs.AssertionTree.{PartTree, part_list}
 use Rattle.vf_syntax.specs.Walks.{at, mark, word, head_has, is_word}
-use Rattle.vf_syntax.specs.Written.{name}
 use Rattle.vf_syntax.specs.Lists.{optional, or_none}
 use Rattle.vf_syntax.specs.Assertions.{assertion, parts_nesting}
 use Rattle.vf_syntax.specs.Statements.{claim, contract, invariant_walk, contract_nesting, invariant_nesting}

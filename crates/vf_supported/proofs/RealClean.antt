@@ -13,7 +13,6 @@ use Rattle.vf_syntax.specs.declared.written.TypeForm.TheVariants as forms
 use Rattle.vf_syntax.specs.declared.written.CType.{CType}
 use Rattle.vf_syntax.specs.ExprTree.{ExprTree, ExprTrees, LinkTree, LinkTrees, PostfixTree, PostfixTrees, no_expr, more_expr, no_link, more_link, no_postfix, more_postfix}
 use Rattle.vf_syntax.specs.ExprTree as tree
-use Rattle.vf_syntax.specs.Walks.{number, character}
 use Rattle.vf_syntax.specs.Written.{sign, width, integer, type_form, ctype, unary_mark, binary_mark}
 use Rattle.vf_syntax.specs.Expressions.{expr, link, links, postfix, postfixes, arguments, more_arguments}
 use Rattle.vf_syntax.specs.declared.operator.UnaryOperator.{UnaryOperator}
