@@ -26,7 +26,7 @@ pub front_1 : (used us rest : List Token) → first us ≡ first rest → 1 ≤ 
 front_1 [] us rest h le = absurd (omega (arith, le))
 front_1 (t ∷ used) us rest h le = first_front used us rest h
 
-front_2 : (used us rest : List Token) → first us ≡ first rest → 2 ≤ length used → first (after (after (used ++ us))) ≡ first (after (after (used ++ rest)))
+pub front_2 : (used us rest : List Token) → first us ≡ first rest → 2 ≤ length used → first (after (after (used ++ us))) ≡ first (after (after (used ++ rest)))
 front_2 [] us rest h le = absurd (omega (arith, le))
 front_2 (t ∷ used) us rest h le = front_1 used us rest h (omega (arith, le))
 

@@ -1,6 +1,7 @@
 pub mod Heads
 pub mod OperandsAlike
 pub mod Beyond
+pub mod Takes
 pub mod PrimaryAlike
 pub mod Casts
 pub mod Refused
