@@ -1,0 +1,2 @@
+pub mod PatternsAlike
+pub mod Stops
