@@ -224,7 +224,7 @@ item_full g d l k b x hk hl hb hx (items.Function s q c a) ts rest h deep =
 item_full grammars.Whole d l k b x hk hl hb hx (items.Ghost a) ts rest h deep = ghost_by l k b x a ts rest (ghost_item_begins a ts rest h) (hx refl a ts rest h deep)
 item_full grammars.Plain d l k b x hk hl hb hx (items.Ghost a) ts rest h deep = absurd cc
 
-item_eats : (g : Grammar) (x : Item) → Eats (item g x)
+pub item_eats : (g : Grammar) (x : Item) → Eats (item g x)
 unfolding item
 item_eats g (items.Opaque p tag) = then_eat (at_keeps p) (eat_then (word_eats _ _) (keep_then (keeps (name_eats _ tag)) (keeps (mark_eats _ _))))
 item_eats g (items.Struct p tag fs) = then_eat (at_keeps p) (eat_then (word_eats _ _) (keep_then (keeps (name_eats _ tag)) (keep_then (keeps (mark_eats _ _)) (keep_then (fields_keep fs) (keep_then (keeps (mark_eats _ _)) (keeps (mark_eats _ _)))))))

@@ -34,7 +34,7 @@ use Rattle.vf_stop_expression.proofs.Refused.{Refuses, here_refuses, unseen, pos
 use Rattle.vf_stop_expression.proofs.ExprAlike.{deep_like, expr_like, postfix_like}
 use Rattle.vf_stop_simple.proofs.SimplesAlike.{Named, declared_like, optional_value_like, simple_like, first_like, declaration_told, declared_name, simple_name, post_named}
 
-owed_like : {A : Type 0} {b : Bool} {p q : Parser A} (g : Grammar) → Does b p q → Does b (owed_at g p) (owed_at g q)
+pub owed_like : {A : Type 0} {b : Bool} {p q : Parser A} (g : Grammar) → Does b p q → Does b (owed_at g p) (owed_at g q)
 owed_like g h = fixed_like (is_whole g) (then_like h (λ x. done_like (Some x))) (done_like None)
 
 unless_like : {A : Type 0} {b : Bool} {p q : Parser A} (ends : Token → Bool) → Does b p q → Does b (unless_at ends p) (unless_at ends q)
