@@ -1,0 +1,2 @@
+pub mod ChunksAlike
+pub mod Stops
