@@ -1,0 +1,2 @@
+pub mod AssertionsAlike
+pub mod Stops

@@ -1,0 +1,8 @@
+//! Laws of the parsers on lists. Each function does nothing; its contract is the law.
+
+ghost use Rattle.vf_stop_assertion.specs.Laws.{AssertionsRefuseAlike};
+
+/// Where a token is refused in an assertion, one is refused in all tokens that are alike up to it.
+pub fn assertions_refuse_alike()
+    ensures { AssertionsRefuseAlike }
+{}
