@@ -1,0 +1,3 @@
+pub mod FlatsAlike
+pub mod CommandsAlike
+pub mod Stops

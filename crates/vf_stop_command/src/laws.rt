@@ -1,0 +1,13 @@
+//! Laws of the parsers on lists. Each function does nothing; its contract is the law.
+
+ghost use Rattle.vf_stop_command.specs.Laws.{CommandsRefuseAlike, GhostBodiesRefuseAlike};
+
+/// Where a token is refused in a ghost command, one is refused in all tokens that are alike up to it.
+pub fn commands_refuse_alike()
+    ensures { CommandsRefuseAlike }
+{}
+
+/// The same of the body of a lemma.
+pub fn ghost_bodies_refuse_alike()
+    ensures { GhostBodiesRefuseAlike }
+{}
