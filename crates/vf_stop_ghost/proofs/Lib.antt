@@ -1,0 +1,4 @@
+pub mod ClausesAlike
+pub mod PartsAlike
+pub mod ItemsAlike
+pub mod Stops
