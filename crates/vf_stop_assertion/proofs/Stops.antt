@@ -1,9 +1,17 @@
--- Where a token is refused, one is refused in all tokens that begin alike.
-use Rattle.std.proofs.Common.{ℕ, ◌≤◌, false}
+-- Where a token is refused, one is refused in all tokens that begin alike, and no assertion could go on.
+use Rattle.std.proofs.Common.{◌≡◌, ℕ, ◌+◌, ◌≤◌, false, List, Some, Err, sym, ◌∙◌, arith}
+use Rattle.vf_lexer.specs.declared.token.Token.{Token}
+use Rattle.vf_syntax.specs.AssertionTree.{PartTree}
 use Rattle.vf_cursor.specs.declared.fault.Fault.TheVariants.{Syntax}
 use Rattle.vf_cursor.specs.Parsing.{Parser}
 use Rattle.vf_parse_assertion.specs.Parsers.{assertion_at}
+use Rattle.vf_parse_assertion.specs.Laws.{assertion_walk, assertion_depth}
+use Rattle.vf_full_assertion.specs.Laws.{goes_on_with_assertion}
+use Rattle.vf_full_assertion.proofs.Ends.{ended_at_all}
+use Rattle.vf_full_assertion.proofs.AssertionsFull.{assertion_full}
+use Rattle.vf_stop_type.specs.Stops.{BeginsUpTo}
 use Rattle.vf_stop_type.proofs.Local.{Does, stops_too}
+use Rattle.vf_stop_term.proofs.Stops.{apart}
 use Rattle.vf_stop_assertion.specs.Laws.{RefusesAlike, AssertionsRefuseAlike}
 use Rattle.vf_stop_assertion.proofs.AssertionsAlike.{assertion_like}
 
@@ -13,3 +21,10 @@ refuses_alike p h d m ts other n le e begins = stops_too {b = false} (h d m le) 
 
 pub assertions_refuse : AssertionsRefuseAlike
 assertions_refuse d m ts other n le e begins = refuses_alike assertion_at assertion_like d m ts other n le e begins
+
+pub assertions_stop : (d : ℕ) (ts other rest : List Token) (n : ℕ) (xs : List PartTree) → assertion_at d ts ≡ Err (Syntax n) → BeginsUpTo ts n other → assertion_walk xs other ≡ Some rest → goes_on_with_assertion rest ≡ false → ⊥
+assertions_stop d ts other rest n xs e begins h free =
+    let m = d + assertion_depth xs in
+    let stop = stops_too {b = false} (assertion_like d m (omega arith)) (Syntax n) tt ts other e begins in
+    let read = assertion_full m xs other rest h (omega arith) (ended_at_all rest free) in
+    apart xs rest stop.0 (sym read ∙ stop.1)
