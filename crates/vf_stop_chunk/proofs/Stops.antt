@@ -24,7 +24,7 @@ use Rattle.vf_parse_chunk.specs.Chunks.{goes_further, begun_at, ended_at}
 use Rattle.vf_full_term.specs.Laws.{goes_on_with_term}
 use Rattle.vf_full_term.proofs.Behind.{ended}
 use Rattle.vf_full_chunk.specs.Laws.{is_whole, piece_of, goes_on_with_part, behind_begun}
-use Rattle.vf_full_chunk.proofs.ChunksFull.{whole_full, term_begun, cell_ended}
+use Rattle.vf_full_chunk.proofs.ChunksFull.{stops, whole_full, term_begun, cell_ended}
 use Rattle.vf_stop_type.specs.Stops.{BeginsUpTo}
 use Rattle.vf_stop_type.proofs.Local.{stops_too}
 use Rattle.vf_stop_term.proofs.Stops.{apart}
@@ -34,7 +34,7 @@ pub wholes_stop : (d : ℕ) (p : Place) (ts other rest : List Token) (k : ℕ) (
 wholes_stop d p ts other rest k x e begins here h whole free =
     let m = d + part_nesting x in
     let stop = stops_too {b = false} (begun_like d m (omega arith) p) (Syntax k) tt ts other e begins in
-    let read = whole_full m p x other rest here h whole (omega arith) free in
+    let read = whole_full m p x other rest here h whole (omega arith) (stops rest free) in
     apart (begun.Whole (piece_of x)) rest stop.0 (sym read ∙ stop.1)
 
 -- an expression alone

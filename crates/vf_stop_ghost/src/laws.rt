@@ -1,6 +1,6 @@
 //! Laws of the parsers on lists. Each function does nothing; its contract is the law.
 
-ghost use Rattle.vf_stop_ghost.specs.Laws.{ContractsRefuseAlike, InvariantsRefuseAlike, GhostItemsRefuseAlike};
+ghost use Rattle.vf_stop_ghost.specs.Laws.{ClaimsStopAlike, ContractsRefuseAlike, ContractsStopAlike, GhostItemsRefuseAlike, GhostItemsStopAlike, InvariantsRefuseAlike, InvariantsStopAlike};
 
 /// Where a token is refused in a contract, one is refused in all tokens that are alike up to it.
 pub fn contracts_refuse_alike()
@@ -15,4 +15,24 @@ pub fn invariants_refuse_alike()
 /// The same of a ghost item.
 pub fn ghost_items_refuse_alike()
     ensures { GhostItemsRefuseAlike }
+{}
+
+/// A token is refused in a claim only where no claim begins with the tokens up to it.
+pub fn claims_stop_alike()
+    ensures { ClaimsStopAlike }
+{}
+
+/// The same of a contract.
+pub fn contracts_stop_alike()
+    ensures { ContractsStopAlike }
+{}
+
+/// The same of an invariant.
+pub fn invariants_stop_alike()
+    ensures { InvariantsStopAlike }
+{}
+
+/// The same of a ghost item.
+pub fn ghost_items_stop_alike()
+    ensures { GhostItemsStopAlike }
 {}
