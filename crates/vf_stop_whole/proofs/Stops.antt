@@ -17,6 +17,7 @@ use Rattle.vf_parse_ghost.proofs.ContractsRead.{claim_sound, contract_sound, inv
 use Rattle.vf_parse_ghost.proofs.ItemsRead.{item_sound}
 use Rattle.vf_parse.specs.Wholes.{whole_at}
 use Rattle.vf_full_unit.proofs.UnitFull.{units_read}
+use Rattle.vf_full.proofs.WholeFull.{annotations}
 use Rattle.vf_stop_type.specs.Stops.{BeginsUpTo}
 use Rattle.vf_stop_type.proofs.Local.{Does, stops_too}
 use Rattle.vf_stop_simple.proofs.Stops.{apart}
@@ -27,7 +28,7 @@ use Rattle.vf_stop_ghost.proofs.ItemsAlike.{item_like}
 use Rattle.vf_stop_unit.specs.Laws.{NoUnitBegins}
 use Rattle.vf_stop_unit.proofs.ItemsAlike.{AlikeAnnotations, units_alike}
 use Rattle.vf_stop_unit.proofs.Stops.{answer_stops, supported}
-use Rattle.vf_stop_whole.specs.Laws.{WholeUnitsRefuseAlike, AnnotationsAreRead, AnswersWhole}
+use Rattle.vf_stop_whole.specs.Laws.{WholeUnitsRefuseAlike, AnswersWhole}
 
 -- what annotations hold is read as it is spelled, and stops alike
 annotations_alike : AlikeAnnotations command_at invariant_at contract_at claim_at item_at
@@ -50,14 +51,14 @@ whole_like d m le = units_alike Whole command_at invariant_at contract_at claim_
 pub wholes_refuse : WholeUnitsRefuseAlike
 wholes_refuse d m ts other n le e begins = refuses_alike whole_at whole_like d m ts other n le e begins
 
-pub wholes_stop : AnnotationsAreRead → (d : ℕ) (ts other : List Token) (k : ℕ) (u : FileUnit) → whole_at d ts ≡ Err (Syntax k) → BeginsUpTo ts k other → unit Whole u other ≡ Some [] → ⊥
-wholes_stop f d ts other k u e begins h =
+pub wholes_stop : (d : ℕ) (ts other : List Token) (k : ℕ) (u : FileUnit) → whole_at d ts ≡ Err (Syntax k) → BeginsUpTo ts k other → unit Whole u other ≡ Some [] → ⊥
+wholes_stop d ts other k u e begins h =
     let m = d + unit_nesting u in
     let stop = stops_too {b = false} (whole_like d m (omega arith)) (Syntax k) tt ts other e begins in
-    let read = units_read Whole command_at invariant_at contract_at claim_at item_at f m u other (record { spelled = h; nested = omega arith }) in
+    let read = units_read Whole command_at invariant_at contract_at claim_at item_at annotations m u other (record { spelled = h; nested = omega arith }) in
     apart u.items [] stop.0 (sym read ∙ stop.1)
 
-pub refused_wholes : AnnotationsAreRead → (result : Result FileUnit ParseFault) (end p : Place) (tokens : List Token) → AnswersWhole result end tokens → result ≡ Err (parse_faults.Syntax p) → (first_unsupported tokens ≡ None) × NoUnitBegins Whole tokens end p
-refused_wholes f result end p tokens a e =
+pub refused_wholes : (result : Result FileUnit ParseFault) (end p : Place) (tokens : List Token) → AnswersWhole result end tokens → result ≡ Err (parse_faults.Syntax p) → (first_unsupported tokens ≡ None) × NoUnitBegins Whole tokens end p
+refused_wholes result end p tokens a e =
     let none = supported result p tokens a.unsupported e (first_unsupported tokens) refl in
-    (none, answer_stops Whole (whole_at 128) (whole_like 128 128 (omega arith)) (wholes_stop f 128) result end p tokens (a.read none) e)
+    (none, answer_stops Whole (whole_at 128) (whole_like 128 128 (omega arith)) (wholes_stop 128) result end p tokens (a.read none) e)

@@ -10,11 +10,7 @@ use Rattle.vf_parse_c.specs.declared.fault.ParseFault.{ParseFault}
 use Rattle.vf_parse_c.specs.declared.fault.ParseFault.TheVariants as parse_faults
 use Rattle.vf_parse_c.specs.Faults.{Answers}
 use Rattle.vf_parse_c.specs.Unsupported.{first_unsupported}
-use Rattle.vf_parse_command.specs.Commands.{command_at}
-use Rattle.vf_parse_ghost.specs.Clauses.{claim_at, contract_at, invariant_at}
-use Rattle.vf_parse_ghost.specs.Items.{item_at}
 use Rattle.vf_parse.specs.Wholes.{whole_at}
-use Rattle.vf_full_unit.specs.Annotations.{FullAnnotations}
 use Rattle.vf_stop_type.specs.Stops.{BeginsUpTo}
 use Rattle.vf_stop_assertion.specs.Laws.{RefusesAlike}
 use Rattle.vf_stop_unit.specs.Laws.{NoUnitBegins}
@@ -23,19 +19,15 @@ use Rattle.vf_stop_unit.specs.Laws.{NoUnitBegins}
 abbrev pub WholeUnitsRefuseAlike : Type 0
 WholeUnitsRefuseAlike = RefusesAlike whole_at
 
--- all that is spelled in annotations is read
-abbrev pub AnnotationsAreRead : Type 0
-AnnotationsAreRead = FullAnnotations Whole command_at invariant_at contract_at claim_at item_at
-
--- where what is spelled in annotations is read: a token, or the end of the tokens, is refused in a unit only where no tokens that are alike up to it are a unit, however deep it nests
+-- a token, or the end of the tokens, is refused in a unit only where no tokens that are alike up to it are a unit, however deep it nests
 abbrev pub WholeUnitsStopAlike : Type 0
-WholeUnitsStopAlike = AnnotationsAreRead → (d : ℕ) (ts other : List Token) (k : ℕ) (u : FileUnit) → whole_at d ts ≡ Err (Syntax k) → BeginsUpTo ts k other → unit Whole u other ≡ Some [] → ⊥
+WholeUnitsStopAlike = (d : ℕ) (ts other : List Token) (k : ℕ) (u : FileUnit) → whole_at d ts ≡ Err (Syntax k) → BeginsUpTo ts k other → unit Whole u other ≡ Some [] → ⊥
 
 -- what is known of an answer on the tokens of a file: it names the first token that is unsupported, and where there is none, it is what reading the tokens comes to
 pub record AnswersWhole (result : Result FileUnit ParseFault) (end : Place) (tokens : List Token) : Type 0 where
   pub unsupported : (p : Place) → first_unsupported tokens ≡ Some p → result ≡ Err (parse_faults.Unsupported p)
   pub read : first_unsupported tokens ≡ None → Answers result end tokens (whole_at 128 tokens)
 
--- where what is spelled in annotations is read: where an answer refuses a place, no token is unsupported, and no unit begins with the tokens up to the place
+-- where an answer refuses a place, no token is unsupported, and no unit begins with the tokens up to the place
 abbrev pub RefusedWholesDoNotBegin : Type 0
-RefusedWholesDoNotBegin = AnnotationsAreRead → (result : Result FileUnit ParseFault) (end p : Place) (tokens : List Token) → AnswersWhole result end tokens → result ≡ Err (parse_faults.Syntax p) → (first_unsupported tokens ≡ None) × NoUnitBegins Whole tokens end p
+RefusedWholesDoNotBegin = (result : Result FileUnit ParseFault) (end p : Place) (tokens : List Token) → AnswersWhole result end tokens → result ≡ Err (parse_faults.Syntax p) → (first_unsupported tokens ≡ None) × NoUnitBegins Whole tokens end p

@@ -7,8 +7,7 @@ pub fn whole_units_refuse_alike()
     ensures { WholeUnitsRefuseAlike }
 {}
 
-/// Where what is spelled in annotations is read, a token is refused in a unit only where no unit begins with the
-/// tokens up to it, the end of the tokens included.
+/// A token is refused in a unit only where no unit begins with the tokens up to it, the end of the tokens included.
 pub fn whole_units_stop_alike()
     ensures { WholeUnitsStopAlike }
 {}
