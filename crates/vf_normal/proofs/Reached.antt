@@ -18,11 +18,11 @@ use Rattle.vf_normal.proofs.Order.{order_total}
 use Rattle.vf_normal.proofs.Stay.{atom_form, stays}
 
 -- atoms in their order, each in normal form
-abbrev Good : List Weighted → Type 0
+abbrev pub Good : List Weighted → Type 0
 Good ws = AreAtoms ws × AllNormal (row_of ws)
 
 -- ---- atoms stay in their order
-greater : (a b : Term) → compare a b ≡ order.Greater → compare b a ≡ order.Less
+pub greater : (a b : Term) → compare a b ≡ order.Greater → compare b a ≡ order.Less
 greater a b e = order_total.0.antisymm b a ∙ ap ordering_reverse e
 
 before_through : (a b : Term) (ws : List Weighted) → compare a b ≡ order.Less → IsBefore b ws → IsBefore a ws
@@ -43,7 +43,7 @@ put_good_by k a ws false e m n h g = ((λ d. false≢true (sym e ∙ (Decides-in
 put_good : (k : ℤ) (a : Term) (ws : List Weighted) → IsAtom a → IsNormal a → IsBefore a ws → Good ws → Good (put k a ws)
 put_good k a ws m n h g = put_good_by k a ws (int_eq k (pos 0)) refl m n h g
 
-tail_good : (w : Weighted) (ws : List Weighted) → Good (w ∷ ws) → Good ws
+pub tail_good : (w : Weighted) (ws : List Weighted) → Good (w ∷ ws) → Good ws
 tail_good w ws g = (g.0.3, g.1.1)
 
 before_placed : (b : Term) (k : ℤ) (a : Term) (w : Weighted) (ws behind : List Weighted) (o : Ordering) → compare b a ≡ order.Less → IsBefore b (w ∷ ws) → IsBefore b behind → IsBefore b (placed k a w ws behind o)
@@ -51,7 +51,7 @@ before_placed b k a w ws behind order.Less e h d = before_put b k a (w ∷ ws) e
 before_placed b k a w ws behind order.Equal e h d = before_put b (k +ℤ w.factor) a ws e h.1
 before_placed b k a w ws behind order.Greater e h d = (h.0, d)
 
-before_with : (b : Term) (k : ℤ) (a : Term) (ws : List Weighted) → compare b a ≡ order.Less → IsBefore b ws → IsBefore b (with_atom k a ws)
+pub before_with : (b : Term) (k : ℤ) (a : Term) (ws : List Weighted) → compare b a ≡ order.Less → IsBefore b ws → IsBefore b (with_atom k a ws)
 before_with b k a [] e h = before_put b k a [] e h
 before_with b k a (w ∷ ws) e h = before_placed b k a w ws (with_atom k a ws) (compare a w.atom) e h (before_with b k a ws e h.1)
 
@@ -73,7 +73,7 @@ before_times : (a : Term) (k : ℤ) (ws : List Weighted) → IsBefore a ws → I
 before_times a k [] h = tt
 before_times a k (w ∷ ws) h = before_put a (k *ℤ w.factor) w.atom (times_each k ws) h.0 (before_times a k ws h.1)
 
-times_good : (k : ℤ) (ws : List Weighted) → Good ws → Good (times_each k ws)
+pub times_good : (k : ℤ) (ws : List Weighted) → Good ws → Good (times_each k ws)
 times_good k [] g = g
 times_good k (w ∷ ws) g = put_good (k *ℤ w.factor) w.atom (times_each k ws) g.0.1 g.1.0 (before_times w.atom k ws g.0.2) (times_good k ws (tail_good w ws g))
 
@@ -116,7 +116,7 @@ sum_parts [] n = tt
 sum_parts (w ∷ []) n = (one_part w (int_eq w.factor (pos 1)) n, tt)
 sum_parts (w ∷ v ∷ ws) n = n.1
 
-pairs_as : (ks : List ℤ) (ts : Terms) (ws : List Weighted) → ks ≡ factors_of ws → ts ≡ row_of ws → paired ks ts ≡ ws
+pub pairs_as : (ks : List ℤ) (ts : Terms) (ws : List Weighted) → ks ≡ factors_of ws → ts ≡ row_of ws → paired ks ts ≡ ws
 pairs_as ks ts ws e d = ap₂ paired e d ∙ back ws
   where
     back : (ws : List Weighted) → paired (factors_of ws) (row_of ws) ≡ ws
@@ -147,7 +147,7 @@ one_atoms : (w : Weighted) (b : Bool) → int_eq w.factor (pos 1) ≡ b → IsAt
 one_atoms w true e m = as_integer_atoms w w.atom refl m ((Decides-int_eq w.factor (pos 1)).0 e)
 one_atoms w false e m = refl
 
-sum_atoms : (w : Weighted) (ws : List Weighted) → AreAtoms (w ∷ ws) → atoms_of (sum_of (w ∷ ws)) ≡ w ∷ ws
+pub sum_atoms : (w : Weighted) (ws : List Weighted) → AreAtoms (w ∷ ws) → atoms_of (sum_of (w ∷ ws)) ≡ w ∷ ws
 sum_atoms w [] h = one_atoms w (int_eq w.factor (pos 1)) refl h.1
 sum_atoms w (v ∷ ws) h = pairs_as (factors_of (w ∷ v ∷ ws)) (row_of (w ∷ v ∷ ws)) (w ∷ v ∷ ws) refl refl
 
@@ -158,7 +158,7 @@ plus_good (w ∷ ws) c ts h e d n =
     (subst Good (sym (sum_atoms w ws h)) (h, sum_parts (w ∷ ws) (subst AllNormal d n).0))
 
 -- the atoms of a term in normal form stand in their order
-form_good : (t : Term) → IsNormal t → Good (form_of t).atoms
+pub form_good : (t : Term) → IsNormal t → Good (form_of t).atoms
 form_good (term (Number z) ts) n = (tt, tt)
 form_good (term (Sum ks) ts) n =
     let l = n.0 in
@@ -208,17 +208,17 @@ folded_normal : (op : ArithmeticOperator) (a b : Term) (o : Option Linear) → o
 folded_normal op a b (Some f) e g m n = folded_by op a b f (fits f) refl e g m n
 folded_normal op a b None e g m n = ((a, b, refl, subst StaysApart e tt), (m, (n, tt)))
 
-calculated_normal : (op : ArithmeticOperator) (a b : Term) → IsNormal a → IsNormal b → IsNormal (calculated op a b)
+pub calculated_normal : (op : ArithmeticOperator) (a b : Term) → IsNormal a → IsNormal b → IsNormal (calculated op a b)
 calculated_normal op a b m n =
     folded_normal op a b (combined op (form_of a) (form_of b)) refl (combined_good op (form_of a) (form_of b) (form_good a m) (form_good b n)) m n
 
 -- ---- the other heads
-part_normal : (ts : Terms) (k : ℕ) → AllNormal ts → IsNormal (part_at ts k)
+pub part_normal : (ts : Terms) (k : ℕ) → AllNormal ts → IsNormal (part_at ts k)
 part_normal no_terms k n = (refl, tt)
 part_normal (and_term t ts) zero n = n.0
 part_normal (and_term t ts) (suc k) n = part_normal ts k n.1
 
-added_up_normal : (ks : List ℤ) (ts : Terms) → AllNormal ts → IsNormal (added_up ks ts)
+pub added_up_normal : (ks : List ℤ) (ts : Terms) → AllNormal ts → IsNormal (added_up ks ts)
 added_up_normal [] ts n = (refl, tt)
 added_up_normal (k ∷ ks) no_terms n = (refl, tt)
 added_up_normal (k ∷ ks) (and_term t ts) n =
@@ -229,7 +229,7 @@ comparison_normal op a b (Some y) (Some z) e d m n = (tt, tt)
 comparison_normal op a b (Some y) None e d m n = ((a, b, refl, inr d), (m, (n, tt)))
 comparison_normal op a b None p e d m n = ((a, b, refl, inl e), (m, (n, tt)))
 
-as_kind_normal : (k : Kind) (t : Term) → IsNormal t → IsNormal (as_kind k t)
+pub as_kind_normal : (k : Kind) (t : Term) → IsNormal t → IsNormal (as_kind k t)
 as_kind_normal Integer t n = as_integer_normal t n
 as_kind_normal Other t n = n
 
@@ -323,7 +323,7 @@ mutual
   reached : (t : Term) → IsNormal (normal t)
   reached (term h ts) = over_normal h (all_normal ts) (all_reached ts)
 
-  all_reached : (ts : Terms) → AllNormal (all_normal ts)
+  pub all_reached : (ts : Terms) → AllNormal (all_normal ts)
   all_reached no_terms = tt
   all_reached (and_term t ts) = (reached t, all_reached ts)
 

@@ -61,11 +61,11 @@ sum_form (w ∷ v ∷ ws) h = ap alone (pairs_back (w ∷ v ∷ ws))
 put_some : (k : ℤ) (a : Term) (ws : List Weighted) → k ≢ pos 0 → put k a ws ≡ record { factor = k; atom = a } ∷ ws
 put_some k a ws n = ap (λ b. cond b ws (record { factor = k; atom = a } ∷ ws)) (not_told k (pos 0) n)
 
-with_first : (w : Weighted) (ws : List Weighted) → w.factor ≢ pos 0 → IsBefore w.atom ws → with_atom w.factor w.atom ws ≡ w ∷ ws
+pub with_first : (w : Weighted) (ws : List Weighted) → w.factor ≢ pos 0 → IsBefore w.atom ws → with_atom w.factor w.atom ws ≡ w ∷ ws
 with_first w [] n h = put_some w.factor w.atom [] n
 with_first w (v ∷ ws) n h = ap (placed w.factor w.atom v ws (with_atom w.factor w.atom ws)) h.0 ∙ put_some w.factor w.atom (v ∷ ws) n
 
-together_none : (ws : List Weighted) → AreAtoms ws → together ws [] ≡ ws
+pub together_none : (ws : List Weighted) → AreAtoms ws → together ws [] ≡ ws
 together_none [] h = refl
 together_none (w ∷ ws) h = ap (with_atom w.factor w.atom) (together_none ws h.3) ∙ with_first w ws h.0 h.2
 

@@ -1,0 +1,4 @@
+pub mod Comparing
+pub mod Fractions
+pub mod Merging
+pub mod Calculating

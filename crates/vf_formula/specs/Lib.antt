@@ -1,0 +1,5 @@
+pub mod Rows
+pub mod Codes
+pub mod Fractions
+pub mod Heads
+pub mod Linears

@@ -1,0 +1,15 @@
+//! Terms of questions, as code.
+//!
+//! Contracts see a [`Term`] as the pure term of `vf_closure` that it is, and its order and its normal
+//! form as those of `vf_normal`.
+#![tactic(auto)]
+
+mod fraction;
+mod head;
+mod linear;
+mod term;
+
+pub use fraction::Dyadic;
+pub use head::{Head, Kind, Name};
+pub use linear::{Linear, Weighted, form, times_each, together};
+pub use term::{Term, TermList};
