@@ -1,3 +1,1 @@
-pub mod Lexemes
 pub mod FirstForm
-pub mod Reading

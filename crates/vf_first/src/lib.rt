@@ -1,18 +1,15 @@
-//! Reading a file of the first form.
+//! The first form of files.
 //!
 //! The first form is a `main` of declarations, assignments and a return over sums of numbers and
-//! locals, with one line for its precondition and one for its postcondition. [`read_first`] gives the
-//! core that a text spells, and nothing just where the text spells none.
+//! locals, which requires `true` and promises `true` or a number. [`first_form`] gives the core of a
+//! file whose tree is of the form, and nothing just where it is not.
 #![tactic(auto)]
 
-mod cursor;
-mod front;
+mod contracts;
 mod names;
-mod read;
+mod statements;
 mod stop;
-mod token;
+mod sums;
+mod unit;
 
-pub use read::{one_reading, read_first};
-
-#[cfg(test)]
-mod tests;
+pub use unit::first_form;

@@ -1,11 +1,11 @@
-//! Why reading stops.
+//! Why a part of a tree gives nothing.
 
 use vf_base::Memory;
 
-/// Why a part of a text gives nothing.
+/// Why a part of a tree gives nothing.
 #[derive(Clone, Copy, Debug)]
 pub enum Stop {
-    /// The text is not of the first form.
+    /// It is not of the first form.
     Other,
     Memory,
 }

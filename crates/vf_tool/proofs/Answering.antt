@@ -1,19 +1,22 @@
 -- What is answered, and what is told of it.
-use Rattle.std.proofs.Common.{◌≡◌, inl, inr, ◌∙◌, sym, ap, subst, ℕ, ◌+◌, ◌<◌, List, length, take, Bool, Some, None, IfSome, arith}
-use Rattle.std.proofs.lemmas.Bool.{cases_lt}
+use Rattle.std.proofs.Common.{◌≡◌, inl, inr, refl, ◌∙◌, sym, ap, subst, ℕ, List, [], length, Bool, true, false, cond, Option, Some, None, IfSome, Err, IsErrOf}
 use Rattle.std.proofs.lemmas.List.{length-map}
 use Rattle.std.specs.FinMap.{get}
-use Rattle.vf_base.specs.Outside.{Contents, IsFront, IsAbsent}
+use Rattle.vf_base.specs.Outside.{Contents, FileMap, IsAbsent, Rose}
 use Rattle.vf_model.specs.declared.words.Event.{Event}
+use Rattle.vf_snapshot.specs.declared.held.Held.{Held}
+use Rattle.vf_snapshot.specs.declared.held.Held.TheVariants as known
+use Rattle.vf_snapshot.specs.Holdings.{Holdings, IsHeldAt, IsKnown, known_of, number_in}
+use Rattle.vf_expand.specs.Worlds.{World, world, AllTold, IsToldBy, Reads, prelude_text}
 use Rattle.vf_term.specs.declared.journal.Journal.{Journal}
 use Rattle.vf_term.specs.Journal.{Seen, seen, nothing_seen, asked_of}
 use Rattle.vf_term.specs.Right.{AreRightFrom}
+use Rattle.vf_tool.specs.declared.status.Stop.{Stop}
+use Rattle.vf_tool.specs.declared.status.Stop.TheVariants as stops
 use Rattle.vf_tool.specs.declared.verdict.Verdict.{Verdict}
-use Rattle.vf_tool.specs.declared.verdict.Verdict.TheVariants.{Accepted, Refused}
-use Rattle.vf_tool.specs.Verdict.{Judged}
-use Rattle.vf_tool.specs.Loaded.{HasSchedule, most_source}
+use Rattle.vf_tool.specs.Verdict.{JudgedBy}
+use Rattle.vf_tool.specs.Loaded.{HasSchedule}
 use Rattle.vf_tool.specs.Run.{Answers, IsAnswer, IsLacking, text_of, is_accepted}
-use Rattle.vf_tool.proofs.Loading.{found, no_longer, whole}
 
 -- a fresh journal has begun no unit, and has no entry
 pub fresh_units : (j : Journal) → seen j ≡ nothing_seen → length j.units ≡ 0
@@ -24,42 +27,72 @@ pub fresh_entries : (j : Journal) → seen j ≡ nothing_seen → length j.entri
 unfolding seen
 fresh_entries j e = sym (length-map j.entries (asked_of j.trail.facts)) ∙ ap (λ (s : Seen). length s.entries) e
 
+-- all that is held where nothing is held is told
+nothing_told : (contents : Contents) (held : Holdings) → held ≡ [] → AllTold contents held
+nothing_told contents held none path number h at =
+    let empty : IsHeldAt [] path number h = subst (λ (x : Holdings). IsHeldAt x path number h) none at in
+    absurd (no_number path number empty.0)
+  where
+    no_number : (path : List ℕ) (number : ℕ) → None ≡ Some number → ⊥
+    no_number path number e = cc
+
+-- what a fresh snapshot holds after reads is told of the files
+pub all_told : (old new : World) → old.held ≡ [] → Reads old new → AllTold old.contents new.held
+all_told old new none reads = reads.told (nothing_told old.contents old.held none)
+
 -- an answer from its verdict
-pub answered : (file source : List ℕ) (events : List Event) (s t : Seen) (v : Verdict) (accepted : Bool) (text : List ℕ) → s ≡ nothing_seen → Judged file source s t v → accepted ≡ is_accepted v → text ≡ text_of file events v → Answers file source events t accepted text
-answered file source events s t v accepted text fresh judged is text_is = record { verdict = v; judged = subst (λ (x : Seen). Judged file source x t v) fresh judged; accepted_is = is; text_is = text_is }
+pub answered : (contents : Contents) (file : List ℕ) (events : List Event) (held : Holdings) (s t u : Seen) (v : Verdict) (accepted : Bool) (text : List ℕ) → AllTold contents held → s ≡ nothing_seen → t ≡ u → JudgedBy held file s t v → accepted ≡ is_accepted v → text ≡ text_of held file events v → IfSome contents (λ m. Answers m file events u accepted text)
+answered None file events held s t u v accepted text told fresh same judged is text_is = tt
+answered (Some m) file events held s t u v accepted text told fresh same judged is text_is = record {
+  held = held;
+  told = told;
+  verdict = v;
+  judged = subst (λ (x : Seen). JudgedBy held file x u v) fresh (subst (λ (x : Seen). JudgedBy held file s x v) same judged);
+  accepted_is = is;
+  text_is = text_is;
+}
 
-pub ruleset answering = (fresh_units, fresh_entries, answered)
+-- nothing is known of a file by its bytes that is missing
+no_bytes : (text : List ℕ) → known.Missing ≡ known.Bytes text → ⊥
+no_bytes text e = cc
 
-judged_longer : (file all bytes : List ℕ) (s t : Seen) (v : Verdict) → most_source < length all → most_source < length bytes → Judged file bytes s t v → Judged file all s t v
-judged_longer file all bytes s t (Accepted core) more longer judged = absurd (omega (arith, judged.spelled.small))
-judged_longer file all bytes s t (Refused refusal) more longer (inl judged) = absurd (omega (arith, judged.spelled.small))
-judged_longer file all bytes s t (Refused refusal) more longer (inr judged) = inr (record { unspelled = λ core spelled. absurd (omega (arith, spelled.small)); quiet = judged.quiet; refusal_is = judged.refusal_is })
+missing_is_absent : (file : Option (List ℕ)) → known.Missing ≡ known_of file → file ≡ None
+missing_is_absent None e = refl
+missing_is_absent (Some bytes) e = absurd (never bytes _ e)
+  where
+    never : (bytes : List ℕ) (b : Bool) → known.Missing ≡ cond b (known.Bytes bytes) known.TooLong → ⊥
+    never bytes true e = cc
+    never bytes false e = cc
 
--- the verdict of what was read is that of the whole file: where more was read than a file may have, neither is of the form
-pub judged_whole : (file all bytes : List ℕ) (s t : Seen) (v : Verdict) → bytes ≡ take (most_source + 1) all → Judged file bytes s t v → Judged file all s t v
-judged_whole file all bytes s t v e judged = elim (cases_lt most_source (length bytes)) [
-  | inl longer ↦ judged_longer file all bytes s t v (no_longer all bytes most_source e longer) longer judged
-  | inr short ↦ subst (λ (b : List ℕ). Judged file b s t v) (whole all bytes most_source e short) judged
-]
+absent_by : (contents : Contents) (path : List ℕ) (prelude : Option (List ℕ)) → IsToldBy contents path known.Missing prelude → IsAbsent contents path
+absent_by contents path (Some text) e = absurd (no_bytes text e)
+absent_by None path None e = tt
+absent_by (Some m) path None e = missing_is_absent (get m path) e
 
-pub told : (contents : Contents) (schedule file bytes : List ℕ) (events : List Event) (t : Seen) (accepted : Bool) (text : List ℕ) → IfSome contents (λ m. HasSchedule m schedule events) → IsFront contents file most_source bytes → Answers file bytes events t accepted text → IfSome contents (λ m. IsAnswer m schedule file t accepted text)
-told None schedule file bytes events t accepted text h front a = tt
-told (Some m) schedule file bytes events t accepted text h front a =
-    let f = found (get m file) _ front in
-    record {
-      events = events;
-      schedule_is = h;
-      source = f.value;
-      there = f.there;
-      answers = record { verdict = a.verdict; judged = judged_whole file f.value bytes _ t a.verdict f.fact a.judged; accepted_is = a.accepted_is; text_is = a.text_is };
-    }
+-- a file that is held as missing is none of those that are told
+pub absent : (contents : Contents) (held : Holdings) (path : List ℕ) → AllTold contents held → ((number : ℕ) × IsHeldAt held path number known.Missing) → IsAbsent contents path
+absent contents held path told (number, at) = absent_by contents path (prelude_text path) (told path number known.Missing at)
+
+-- a stop of one call is a stop of another
+pub stopped : {A B : Type 0} (s : Stop) → IsErrOf {T = A} (Err s) stops.Missing → IsErrOf {T = B} (Err s) stops.Missing
+stopped stops.Missing e = refl
+stopped stops.ReadFault e = absurd cc
+stopped stops.Unreadable e = absurd cc
+stopped stops.Memory e = absurd cc
+
+-- a file that is held as missing by a snapshot that was fresh raised the count
+pub rose : (old new : World) (path : List ℕ) → old.held ≡ [] → Reads old new → ((number : ℕ) × IsHeldAt new.held path number known.Missing) → Rose old.absences new.absences
+rose old new path none reads (number, at) = reads.absent path number (ap (λ (x : Holdings). number_in x path) none) at
+
+pub told : (contents : Contents) (schedule file : List ℕ) (events : List Event) (t : Seen) (accepted : Bool) (text : List ℕ) → IfSome contents (λ m. HasSchedule m schedule events) → IfSome contents (λ m. Answers m file events t accepted text) → IfSome contents (λ m. IsAnswer m schedule file t accepted text)
+told None schedule file events t accepted text h a = tt
+told (Some m) schedule file events t accepted text h a = record { events = events; schedule_is = h; answers = a }
 
 -- the same where the parts come by other names
-pub told_by : (contents mid : Contents) (schedule file bytes source : List ℕ) (events listed : List Event) (t : Seen) (accepted : Bool) (text : List ℕ) → mid ≡ contents → source ≡ bytes → listed ≡ events → IfSome contents (λ m. HasSchedule m schedule events) → IsFront mid file most_source bytes → Answers file source listed t accepted text → IfSome contents (λ m. IsAnswer m schedule file t accepted text)
-told_by contents mid schedule file bytes source events listed t accepted text same is all h front a =
-    told contents schedule file bytes events t accepted text h
-    (subst (λ (x : Contents). IsFront x file most_source bytes) same front)
-    (subst (λ (x : List Event). Answers file bytes x t accepted text) all (subst (λ (x : List ℕ). Answers file x listed t accepted text) is a))
+pub told_by : (contents mid : Contents) (schedule file : List ℕ) (events listed : List Event) (t : Seen) (accepted : Bool) (text : List ℕ) → mid ≡ contents → listed ≡ events → IfSome contents (λ m. HasSchedule m schedule events) → IfSome mid (λ m. Answers m file listed t accepted text) → IfSome contents (λ m. IsAnswer m schedule file t accepted text)
+told_by contents mid schedule file events listed t accepted text same all h a =
+    told contents schedule file events t accepted text h
+    (subst (λ (x : List Event). IfSome contents (λ m. Answers m file x t accepted text)) all (subst (λ (x : Contents). IfSome x (λ m. Answers m file listed t accepted text)) same a))
 
 -- right answers from the beginning
 pub right_from : (n : ℕ) (s : Seen) → n ≡ 0 → AreRightFrom n s → AreRightFrom 0 s
@@ -71,8 +104,10 @@ lacks_schedule None schedule file h = tt
 lacks_schedule (Some m) schedule file h = inl h
 
 -- no source file is there
-pub lacks_source : (contents : Contents) (schedule file : List ℕ) (events : List Event) → IfSome contents (λ m. HasSchedule m schedule events) → IsAbsent contents file → IfSome contents (λ m. IsLacking m schedule file)
-lacks_source None schedule file events h absent = tt
-lacks_source (Some m) schedule file events h absent = inr ((events, h), absent)
+pub lacks_source : (contents mid : Contents) (schedule file : List ℕ) (events : List Event) → mid ≡ contents → IfSome contents (λ m. HasSchedule m schedule events) → IsAbsent mid file → IfSome contents (λ m. IsLacking m schedule file)
+lacks_source None mid schedule file events same h absent = tt
+lacks_source (Some m) mid schedule file events same h absent = inr ((events, h), subst (λ (x : Contents). IsAbsent x file) same absent)
+
+pub ruleset answering = (fresh_units, fresh_entries)
 
 pub ruleset telling = (told, lacks_schedule, lacks_source)

@@ -1,25 +1,46 @@
 -- Verdicts from what reading, beginning and checking say.
-use Rattle.std.proofs.Common.{◌⊎◌, inl, inr, refl, subst, List, ℕ, Ok, Err}
+use Rattle.std.proofs.Common.{◌≡◌, ◌∙◌, inl, inr, refl, sym, ap, subst, List, ℕ, Option, Some, Result, Ok, Err}
 use Rattle.vf_base.specs.declared.refusal.Refusal.{Refusal}
-use Rattle.vf_base.specs.declared.refusal.RuleFault.TheVariants.{Refused}
+use Rattle.vf_base.specs.declared.refusal.RuleFault.TheVariants.{Refused as Blamed}
+use Rattle.vf_snapshot.specs.Holdings.{Holdings}
+use Rattle.vf_preproc.specs.UnitText.{Library}
+use Rattle.vf_preproc.specs.Units.{Tells}
 use Rattle.vf_tree.specs.declared.unit.Core.{Core}
 use Rattle.vf_term.specs.declared.journal.Definitions.{Definitions}
 use Rattle.vf_term.specs.declared.journal.Journal.{Journal}
-use Rattle.vf_term.specs.Journal.{Seen, seen, HasBegun}
+use Rattle.vf_term.specs.Journal.{Seen, seen, begun, HasBegun}
 use Rattle.vf_term.specs.Course.{Follows, Blames}
 use Rattle.vf_term.proofs.Seeing.{seen_begun}
-use Rattle.vf_first.specs.FirstForm.{Spells}
 use Rattle.vf_exec.specs.Main.{checks}
-use Rattle.vf_tool.specs.Verdict.{IsAccepted, IsRefused, IsUnread, unsupported}
+use Rattle.vf_tool.specs.declared.verdict.Verdict.{Verdict}
+use Rattle.vf_tool.specs.declared.verdict.Verdict.TheVariants.{Accepted, Refused}
+use Rattle.vf_tool.specs.Readings.{reading_of}
+use Rattle.vf_tool.specs.Verdict.{Checked, Judged, JudgedBy}
 
-pub accepts : (path bytes : List ℕ) (core : Core) (defs : Definitions) (j k : Journal) (t : Seen) → Spells path 0 bytes core → HasBegun defs j k → Follows (checks core) (seen k) t (Ok tt) → IsAccepted path bytes (seen j) t core
-accepts path bytes core defs j k t spelled begins p = record { spelled = spelled; follows = subst (λ (s : Seen). Follows (checks core) s t (Ok tt)) (seen_begun defs j k begins) p }
+pub accepts : (core : Core) (defs : Definitions) (j k : Journal) (t : Seen) → HasBegun defs j k → Follows (checks core) (seen k) t (Ok tt) → Checked core (seen j) t (Accepted core)
+accepts core defs j k t begins p = (refl, subst (λ (s : Seen). Follows (checks core) s t (Ok tt)) (seen_begun defs j k begins) p)
 
-pub refuses : (path bytes : List ℕ) (core : Core) (defs : Definitions) (j k : Journal) (t : Seen) (refusal : Refusal) → Spells path 0 bytes core → HasBegun defs j k → Blames (checks core) (seen k) t (Refused refusal) → IsRefused path bytes (seen j) t refusal ⊎ IsUnread path bytes (seen j) t refusal
+pub refuses : (core : Core) (defs : Definitions) (j k : Journal) (t : Seen) (refusal : Refusal) → HasBegun defs j k → Blames (checks core) (seen k) t (Blamed refusal) → Checked core (seen j) t (Refused refusal)
 unfolding Blames
-refuses path bytes core defs j k t refusal spelled begins p = inl (record { core = core; spelled = spelled; follows = subst (λ (s : Seen). Follows (checks core) s t (Err refusal)) (seen_begun defs j k begins) p })
+refuses core defs j k t refusal begins p = subst (λ (s : Seen). Follows (checks core) s t (Err refusal)) (seen_begun defs j k begins) p
 
-pub unread : (path bytes : List ℕ) (s : Seen) → ((core : Core) → Spells path 0 bytes core → ⊥) → IsRefused path bytes s s unsupported ⊎ IsUnread path bytes s s unsupported
-unread path bytes s h = inr (record { unspelled = h; quiet = refl; refusal_is = refl })
+-- the file at a path reads as this, whatever stands in files of which nothing is held
+abbrev pub ReadsAs : Holdings → List ℕ → Result Core Refusal → Type 0
+ReadsAs held path r = (library : Library) → Tells library held → reading_of library path ≡ Some r
 
-pub ruleset judging = (accepts, refuses, unread)
+pub unread : (held : Holdings) (path : List ℕ) (s : Seen) (refusal : Refusal) → ReadsAs held path (Err refusal) → JudgedBy held path s s (Refused refusal)
+unread held path s refusal reads = λ library tells. inr (record { reads = reads library tells; quiet = refl })
+
+judged : (library : Library) (path : List ℕ) (s t : Seen) (core : Core) (v : Verdict) → reading_of library path ≡ Some (Ok core) → Checked core s t v → Judged library path s t v
+judged library path s t core (Accepted accepted) reads (same, follows) = record {
+  reads = reads ∙ ap (λ (c : Core). Some (Ok c)) (sym same);
+  follows = subst (λ (c : Core). Follows (checks c) (begun s) t (Ok tt)) (sym same) follows;
+}
+judged library path s t core (Refused refusal) reads follows = inl (record { core = core; reads = reads; follows = follows })
+
+pub checked : (held : Holdings) (path : List ℕ) (s t : Seen) (core : Core) (v : Verdict) → ReadsAs held path (Ok core) → Checked core s t v → JudgedBy held path s t v
+checked held path s t core v reads c = λ library tells. judged library path s t core v (reads library tells) c
+
+pub ruleset checking = (accepts, refuses)
+
+pub ruleset judging = (unread, checked)

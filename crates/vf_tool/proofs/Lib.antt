@@ -1,7 +1,10 @@
 pub mod Answering
 pub mod Asked
+pub mod Formed
 pub mod Judgements
 pub mod Loading
-pub mod Telling
-pub mod Formed
+pub mod Parsed
+pub mod Readable
 pub mod Safety
+pub mod Scoped
+pub mod Telling

@@ -14,27 +14,39 @@ use Rattle.vf_sound.proofs.Linking.{extends_itself, one_unit_links}
 use Rattle.vf_tool.specs.declared.verdict.Verdict.{Verdict}
 use Rattle.vf_tool.specs.declared.verdict.Verdict.TheVariants.{Accepted, Refused}
 use Rattle.vf_tool.specs.Words.{IsRun}
-use Rattle.vf_tool.specs.Verdict.{Judged, IsAccepted}
+use Rattle.vf_tool.specs.Verdict.{Judged, JudgedBy, IsAccepted}
 use Rattle.vf_tool.specs.Run.{IsAnswer}
 use Rattle.vf_tool.specs.Safe.{IsSafeLinked, WhereAccepted, IsSafeRun}
-use Rattle.vf_tool.proofs.Formed.{spelled_is_formed}
+use Rattle.vf_snapshot.specs.Holdings.{Holdings}
+use Rattle.vf_preproc.specs.UnitText.{Library}
+use Rattle.vf_expand.proofs.Telling.{told}
+use Rattle.vf_sound.specs.Formed.{IsFormed}
+use Rattle.vf_tool.proofs.Readable.{reading_is_formed}
+
+-- what is accepted over a library reads as a core that is formed
+formed : (library : Library) (file : List ℕ) (t : Seen) (core : Core) → IsAccepted library file nothing_seen t core → IsFormed core
+formed library file t core accepted = reading_is_formed library file core accepted.reads
 
 -- a unit that is accepted by right answers is safe, in each environment that has all of the unit's
-always_safe : (file source : List ℕ) (t : Seen) (core : Core) (e : Environment) → AreRightFrom 0 t → IsAccepted file source nothing_seen t core → Extends (environment_of core) e → IsAlwaysSafe e (program_of core.plain)
-always_safe file source t core e right accepted extends =
-    accepted_is_safe core e 0 (begun nothing_seen) t (spelled_is_formed file 0 source core accepted.spelled) extends (omega arith) accepted.follows right
+always_safe : (library : Library) (file : List ℕ) (t : Seen) (core : Core) (e : Environment) → AreRightFrom 0 t → IsAccepted library file nothing_seen t core → Extends (environment_of core) e → IsAlwaysSafe e (program_of core.plain)
+always_safe library file t core e right accepted extends =
+    accepted_is_safe core e 0 (begun nothing_seen) t (formed library file t core accepted) extends (omega arith) accepted.follows right
 
-safe_unit : (file source : List ℕ) (t : Seen) (core : Core) → AreRightFrom 0 t → IsAccepted file source nothing_seen t core → IsSafeLinked (environment_of core ∷ []) (program_of core.plain)
-safe_unit file source t core right accepted = record {
+safe_unit : (library : Library) (file : List ℕ) (t : Seen) (core : Core) → AreRightFrom 0 t → IsAccepted library file nothing_seen t core → IsSafeLinked (environment_of core ∷ []) (program_of core.plain)
+safe_unit library file t core right accepted = record {
   environment = environment_of core;
   linked = one_unit_links core;
-  safe = λ events. (always_safe file source t core (environment_of core) right accepted (extends_itself (environment_of core)) events).0;
-  kept = λ e linked events. (always_safe file source t core e right accepted (linked.all (environment_of core) (0, omega arith, refl)) events).1;
+  safe = λ events. (always_safe library file t core (environment_of core) right accepted (extends_itself (environment_of core)) events).0;
+  kept = λ e linked events. (always_safe library file t core e right accepted (linked.all (environment_of core) (0, omega arith, refl)) events).1;
 }
 
-safe_verdict : (file source : List ℕ) (t : Seen) (v : Verdict) → AreRightFrom 0 t → Judged file source nothing_seen t v → WhereAccepted v
-safe_verdict file source t (Accepted core) right judged = safe_unit file source t core right judged
-safe_verdict file source t (Refused refusal) right judged = tt
+safe_verdict : (library : Library) (file : List ℕ) (t : Seen) (v : Verdict) → AreRightFrom 0 t → Judged library file nothing_seen t v → WhereAccepted v
+safe_verdict library file t (Accepted core) right judged = safe_unit library file t core right judged
+safe_verdict library file t (Refused refusal) right judged = tt
+
+-- a verdict by what is held of the files is one over a library
+safe_held : (held : Holdings) (file : List ℕ) (t : Seen) (v : Verdict) → AreRightFrom 0 t → JudgedBy held file nothing_seen t v → WhereAccepted v
+safe_held held file t v right judged = let l = told held in safe_verdict l.0 file t v right (judged l.0 l.1)
 
 -- what a run answers by right answers is safe
 pub safe_run : (contents : Contents) (m : FileMap) (words : List (List ℕ)) (schedule file : List ℕ) (t : Seen) (accepted told : Bool) (text : List ℕ) → contents ≡ Some m → IsRun words schedule file → AreRightFrom 0 t → accepted ≡ told → IfSome contents (λ n. IsAnswer n schedule file t accepted text) → IsSafeRun m words t told
@@ -44,10 +56,10 @@ safe_run contents m words schedule file t accepted told text is run right same h
       schedule = schedule;
       file = file;
       words_are = run;
-      source = a.source;
-      there = a.there;
+      held = a.answers.held;
+      told = a.answers.told;
       verdict = a.answers.verdict;
       judged = a.answers.judged;
       accepted_is = sym same ∙ a.answers.accepted_is;
-      safe = safe_verdict file a.source t a.answers.verdict right a.answers.judged;
+      safe = safe_held a.answers.held file t a.answers.verdict right a.answers.judged;
     }

@@ -1,7 +1,6 @@
 -- What the top call tells: one run in the words, one verdict by right answers.
 use Rattle.std.proofs.Common.{◌≡◌, inl, inr, ◌∙◌, refl, sym, ap, subst, ℕ, List, [], ◌∷◌, Bool, Some, IfSome, Ok, Err, arith}
 use Rattle.std.specs.Prelude.{codes}
-use Rattle.std.specs.FinMap.{get}
 use Rattle.vf_base.specs.Outside.{Contents, FileMap}
 use Rattle.vf_base.specs.declared.refusal.Refusal.{Refusal}
 use Rattle.vf_tree.specs.declared.unit.Core.{Core}
@@ -10,24 +9,31 @@ use Rattle.vf_term.specs.Course.{Follows}
 use Rattle.vf_term.specs.Journal.{Seen, nothing_seen, begun}
 use Rattle.vf_term.specs.Right.{AreRightFrom}
 use Rattle.vf_term.proofs.Determined.{right_determined}
-use Rattle.vf_first.proofs.Units.{same_core}
 use Rattle.vf_exec.specs.Main.{checks}
 use Rattle.vf_tool.specs.declared.verdict.Verdict.{Verdict}
 use Rattle.vf_tool.specs.declared.verdict.Verdict.TheVariants.{Accepted, Refused}
 use Rattle.vf_tool.specs.declared.status.Stop.{Stop}
 use Rattle.vf_tool.specs.declared.status.Stop.TheVariants as stops
 use Rattle.vf_tool.specs.Status.{status_of_stop}
-use Rattle.vf_tool.specs.Verdict.{Judged}
+use Rattle.vf_snapshot.specs.Holdings.{Holdings}
+use Rattle.vf_snapshot.specs.Paths.{normal}
+use Rattle.vf_preproc.specs.UnitText.{Library}
+use Rattle.vf_expand.proofs.Telling.{told}
+use Rattle.vf_tool.specs.Readings.{reading_of}
+use Rattle.vf_tool.specs.Verdict.{Judged, JudgedBy}
 use Rattle.vf_tool.specs.Words.{IsRun}
 use Rattle.vf_tool.specs.Loaded.{IsSchedule, HasSchedule, HasNoSchedule}
 use Rattle.vf_tool.specs.Run.{IsAnswer, Decides, is_accepted, status_of}
 
 -- words are a run of one schedule and one file
 pub one_schedule : (words : List (List ℕ)) (s f s2 f2 : List ℕ) → IsRun words s f → IsRun words s2 f2 → s ≡ s2
-one_schedule words s f s2 f2 p q = let both : codes "run" ∷ s ∷ f ∷ [] ≡ codes "run" ∷ s2 ∷ f2 ∷ [] = sym p.words_are ∙ q.words_are in cc
+one_schedule words s f s2 f2 p q = let both : codes "run" ∷ s ∷ p.word ∷ [] ≡ codes "run" ∷ s2 ∷ q.word ∷ [] = sym p.words_are ∙ q.words_are in cc
+
+one_word : (words : List (List ℕ)) (s f s2 f2 : List ℕ) (p : IsRun words s f) (q : IsRun words s2 f2) → p.word ≡ q.word
+one_word words s f s2 f2 p q = let both : codes "run" ∷ s ∷ p.word ∷ [] ≡ codes "run" ∷ s2 ∷ q.word ∷ [] = sym p.words_are ∙ q.words_are in cc
 
 pub one_file : (words : List (List ℕ)) (s f s2 f2 : List ℕ) → IsRun words s f → IsRun words s2 f2 → f ≡ f2
-one_file words s f s2 f2 p q = let both : codes "run" ∷ s ∷ f ∷ [] ≡ codes "run" ∷ s2 ∷ f2 ∷ [] = sym p.words_are ∙ q.words_are in cc
+one_file words s f s2 f2 p q = p.file_is ∙ ap (normal []) (one_word words s f s2 f2 p q) ∙ sym q.file_is
 
 -- an acceptance and a refusal do not both follow by right answers
 both_ways : (core core2 : Core) (refusal : Refusal) (t u : Seen) → core ≡ core2 → Follows (checks core) (begun nothing_seen) t (Ok tt) → Follows (checks core2) (begun nothing_seen) u (Err refusal) → AreRightFrom 0 t → AreRightFrom 0 u → ⊥
@@ -35,20 +41,31 @@ both_ways core core2 refusal t u same p q right right2 =
     let one = right_determined (checks core2) 0 (begun nothing_seen) t u (Ok tt) (Err refusal) (omega arith) (subst (λ (c : Core). Follows (checks c) (begun nothing_seen) t (Ok tt)) same p) q right right2 in
     let differ : Ok tt ≡ Err refusal = one.0 in cc
 
+-- a file reads as one thing
+one_core : (library : Library) (file : List ℕ) (core core2 : Core) → reading_of library file ≡ Some (Ok core) → reading_of library file ≡ Some (Ok core2) → core ≡ core2
+one_core library file core core2 p q = let both : Some (Ok core) ≡ Some (Ok core2) = sym p ∙ q in cc
+
+not_both : (library : Library) (file : List ℕ) (core : Core) (refusal : Refusal) → reading_of library file ≡ Some (Ok core) → reading_of library file ≡ Some (Err refusal) → ⊥
+not_both library file core refusal p q = let both : Some (Ok core) ≡ Some (Err refusal) = sym p ∙ q in cc
+
 -- one verdict by right answers
-pub one_verdict : (file source : List ℕ) (t u : Seen) (v w : Verdict) → AreRightFrom 0 t → AreRightFrom 0 u → Judged file source nothing_seen t v → Judged file source nothing_seen u w → is_accepted v ≡ is_accepted w
-one_verdict file source t u (Accepted core) (Accepted core2) r q a b = refl
-one_verdict file source t u (Refused x) (Refused y) r q a b = refl
-one_verdict file source t u (Accepted core) (Refused y) r q a (inl b) = absurd (both_ways core b.core y t u (same_core file 0 source core b.core a.spelled b.spelled) a.follows b.follows r q)
-one_verdict file source t u (Accepted core) (Refused y) r q a (inr b) = absurd (b.unspelled core a.spelled)
-one_verdict file source t u (Refused x) (Accepted core) r q (inl a) b = absurd (both_ways core a.core x u t (same_core file 0 source core a.core b.spelled a.spelled) b.follows a.follows q r)
-one_verdict file source t u (Refused x) (Accepted core) r q (inr a) b = absurd (a.unspelled core b.spelled)
+one_verdict : (library : Library) (file : List ℕ) (t u : Seen) (v w : Verdict) → AreRightFrom 0 t → AreRightFrom 0 u → Judged library file nothing_seen t v → Judged library file nothing_seen u w → is_accepted v ≡ is_accepted w
+one_verdict library file t u (Accepted core) (Accepted core2) r q a b = refl
+one_verdict library file t u (Refused x) (Refused y) r q a b = refl
+one_verdict library file t u (Accepted core) (Refused y) r q a (inl b) = absurd (both_ways core b.core y t u (one_core library file core b.core a.reads b.reads) a.follows b.follows r q)
+one_verdict library file t u (Accepted core) (Refused y) r q a (inr b) = absurd (not_both library file core y a.reads b.reads)
+one_verdict library file t u (Refused x) (Accepted core) r q (inl a) b = absurd (both_ways core a.core x u t (one_core library file core a.core b.reads a.reads) b.follows a.follows q r)
+one_verdict library file t u (Refused x) (Accepted core) r q (inr a) b = absurd (not_both library file core x b.reads a.reads)
+
+-- one verdict by what is held of the files
+one_held : (held : Holdings) (file : List ℕ) (t u : Seen) (v w : Verdict) → AreRightFrom 0 t → AreRightFrom 0 u → JudgedBy held file nothing_seen t v → JudgedBy held file nothing_seen u w → is_accepted v ≡ is_accepted w
+one_held held file t u v w r q a b = let l = told held in one_verdict l.0 file t u v w r q (a l.0 l.1) (b l.0 l.1)
 
 -- a told answer decides
 pub decides : (contents : Contents) (m : FileMap) (s f schedule file : List ℕ) (t : Seen) (accepted : Bool) (text : List ℕ) → contents ≡ Some m → f ≡ file → AreRightFrom 0 t → IfSome contents (λ n. IsAnswer n s f t accepted text) → Decides m file (status_of accepted)
 decides contents m s f schedule file t accepted text is same right h =
     let a : IsAnswer m s f t accepted text = subst (λ (c : Contents). IfSome c (λ n. IsAnswer n s f t accepted text)) is h in
-    inr (a.source, ap (λ (x : List ℕ). get m x) (sym same) ∙ a.there, λ u w r j. ap status_of (a.answers.accepted_is ∙ one_verdict f a.source t u a.answers.verdict w right r a.answers.judged (subst (λ (x : List ℕ). Judged x a.source nothing_seen u w) (sym same) j)))
+    inr (a.answers.held, a.answers.told, λ u w r j. ap status_of (a.answers.accepted_is ∙ one_held a.answers.held f t u a.answers.verdict w right r a.answers.judged (subst (λ (x : List ℕ). JudgedBy a.answers.held x nothing_seen u w) (sym same) j)))
 
 -- a call that was stopped, where no count rose and the schedule reads, had no memory
 pub decides_stop : (contents : Contents) (m : FileMap) (s schedule file : List ℕ) (events : List Event) (stop : Stop) → contents ≡ Some m → s ≡ schedule → HasSchedule m schedule events → (stop ≡ stops.ReadFault → ⊥) → (stop ≡ stops.Missing → ⊥) → (stop ≡ stops.Unreadable → IfSome contents (λ n. HasNoSchedule n s)) → Decides m file (status_of_stop stop)

@@ -1,5 +1,6 @@
 pub mod Lines
 pub mod Loaded
+pub mod Readings
 pub mod Run
 pub mod Safe
 pub mod Status

@@ -13,17 +13,17 @@ use Rattle.vf_model.specs.declared.words.Outcome.TheVariants.{Returned, Aborted,
 abbrev pub line : List ℕ → List ℕ
 line text = text ++ 10 ∷ []
 
--- A place as it is printed, in the one file that a run is of: path, line and column, parted by colons.
-abbrev pub shown_place : List ℕ → Place → List ℕ
-shown_place path place = path ++ codes ":" ++ decimal place.line ++ codes ":" ++ decimal place.column
+-- A place as it is printed: the path of its file, line and column, parted by colons. path_of gives the paths of files by their numbers.
+abbrev pub shown_place : (ℕ → List ℕ) → Place → List ℕ
+shown_place path_of place = path_of place.file ++ codes ":" ++ decimal place.line ++ codes ":" ++ decimal place.column
 
 -- what is printed of an accepted file
 abbrev pub accepted_line : List ℕ → List ℕ
 accepted_line path = line (path ++ codes ": accepted")
 
 -- what is printed of a refused file
-abbrev pub refusal_line : List ℕ → Refusal → List ℕ
-refusal_line path refusal = line (shown_place path refusal.place ++ codes ": rule " ++ decimal (number_of refusal.rule) ++ codes " " ++ name_of refusal.rule)
+abbrev pub refusal_line : (ℕ → List ℕ) → Refusal → List ℕ
+refusal_line path_of refusal = line (shown_place path_of refusal.place ++ codes ": rule " ++ decimal (number_of refusal.rule) ++ codes " " ++ name_of refusal.rule)
 
 -- what is printed where the files link
 abbrev pub linked_line : List ℕ
@@ -42,16 +42,16 @@ kind_name Join = codes "join"
 kind_name NoReturn = codes "noreturn"
 
 -- how a run stands, in words
-abbrev pub shown_outcome : List ℕ → Outcome → List ℕ
-shown_outcome path (Returned n) = codes "returned " ++ signed_decimal n
-shown_outcome path Aborted = codes "aborted"
-shown_outcome path Blocked = codes "blocked"
-shown_outcome path Running = codes "running"
-shown_outcome path (Fault kind place) = codes "fault " ++ kind_name kind ++ codes " " ++ shown_place path place
+abbrev pub shown_outcome : (ℕ → List ℕ) → Outcome → List ℕ
+shown_outcome path_of (Returned n) = codes "returned " ++ signed_decimal n
+shown_outcome path_of Aborted = codes "aborted"
+shown_outcome path_of Blocked = codes "blocked"
+shown_outcome path_of Running = codes "running"
+shown_outcome path_of (Fault kind place) = codes "fault " ++ kind_name kind ++ codes " " ++ shown_place path_of place
 
 -- the last line of a run
-abbrev pub outcome_line : List ℕ → Outcome → List ℕ
-outcome_line path outcome = line (shown_outcome path outcome)
+abbrev pub outcome_line : (ℕ → List ℕ) → Outcome → List ℕ
+outcome_line path_of outcome = line (shown_outcome path_of outcome)
 
 -- whether there is a last byte other than a line feed
 abbrev pub is_open : Option ℕ → Bool

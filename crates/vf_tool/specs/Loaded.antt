@@ -9,10 +9,6 @@ use Rattle.vf_events.specs.Schedules.{IsScheduleText}
 abbrev pub most_schedule : ℕ
 most_schedule = 16777216
 
--- the most bytes of a source file
-abbrev pub most_source : ℕ
-most_source = 1048576
-
 -- The bytes are a schedule's text: not too many, and they read as these events.
 pub record IsSchedule (bytes : List ℕ) (events : List Event) : Type 0 where
   pub size : length bytes ≤ most_schedule

@@ -2,6 +2,8 @@
 use Rattle.std.specs.Prelude.{◌≡◌, ◌⊎◌, ℕ, Bool, true, false, List, ◌++◌, Option, Some, None}
 use Rattle.std.specs.FinMap.{get}
 use Rattle.vf_base.specs.Outside.{FileMap, Takes, TakesFront}
+use Rattle.vf_snapshot.specs.Holdings.{Holdings}
+use Rattle.vf_expand.specs.Worlds.{AllTold}
 use Rattle.vf_tree.specs.Core.{ProgramTree}
 use Rattle.vf_tree.specs.Shown.{program_of}
 use Rattle.vf_model.specs.declared.words.Event.{Event}
@@ -15,16 +17,17 @@ use Rattle.vf_tool.specs.declared.verdict.Verdict.TheVariants.{Accepted, Refused
 use Rattle.vf_tool.specs.Words.{IsRun}
 use Rattle.vf_tool.specs.Lines.{accepted_line, refusal_line, linked_line, outcome_line, closed_output}
 use Rattle.vf_tool.specs.Loaded.{HasSchedule}
-use Rattle.vf_tool.specs.Verdict.{Judged}
+use Rattle.vf_tool.specs.Readings.{path_in}
+use Rattle.vf_tool.specs.Verdict.{JudgedBy}
 
 -- what a run of the program prints: its output, and how the run stands after the events
-abbrev pub run_lines : List ℕ → ProgramTree → List Event → List ℕ
-run_lines path p events = closed_output (reach p events).output ++ outcome_line path (outcome_of p (reach p events))
+abbrev pub run_lines : (ℕ → List ℕ) → ProgramTree → List Event → List ℕ
+run_lines path_of p events = closed_output (reach p events).output ++ outcome_line path_of (outcome_of p (reach p events))
 
--- the text for a verdict: where the file is accepted it links by itself, and the plain reading of its text runs
-abbrev pub text_of : List ℕ → List Event → Verdict → List ℕ
-text_of path events (Accepted core) = accepted_line path ++ (linked_line ++ run_lines path (program_of core.plain) events)
-text_of path events (Refused refusal) = refusal_line path refusal
+-- the text for a verdict of the file at a path, by what is held of the files: where the file is accepted it links by itself, and the plain reading of its text runs
+abbrev pub text_of : Holdings → List ℕ → List Event → Verdict → List ℕ
+text_of held path events (Accepted core) = accepted_line path ++ (linked_line ++ run_lines (path_in held path) (program_of core.plain) events)
+text_of held path events (Refused refusal) = refusal_line (path_in held path) refusal
 
 -- whether a verdict is to accept
 abbrev pub is_accepted : Verdict → Bool
@@ -36,22 +39,22 @@ abbrev pub status_of : Bool → Status
 status_of true = statuses.Done
 status_of false = statuses.Refused
 
--- A source text has a verdict by the questions and answers that a fresh journal gained, and the answer and the text are those of the verdict.
-pub record Answers (file source : List ℕ) (events : List Event) (t : Seen) (accepted : Bool) (text : List ℕ) : Type 0 where
+-- The file at a path has a verdict by what the files tell and by the questions and answers that a fresh journal gained, and the answer and the text are those of the verdict. What was asked for of the files is held, each path once.
+pub record Answers (m : FileMap) (file : List ℕ) (events : List Event) (t : Seen) (accepted : Bool) (text : List ℕ) : Type 0 where
+  pub held : Holdings
+  pub told : AllTold (Some m) held
   pub verdict : Verdict
-  pub judged : Judged file source nothing_seen t verdict
+  pub judged : JudgedBy held file nothing_seen t verdict
   pub accepted_is : accepted ≡ is_accepted verdict
-  pub text_is : text ≡ text_of file events verdict
+  pub text_is : text ≡ text_of held file events verdict
 
--- The files have a schedule and a source text at these paths, and this is what comes of them.
+-- The files have a schedule at its path, and this is what comes of the file.
 pub record IsAnswer (m : FileMap) (schedule file : List ℕ) (t : Seen) (accepted : Bool) (text : List ℕ) : Type 0 where
   pub events : List Event
   pub schedule_is : HasSchedule m schedule events
-  pub source : List ℕ
-  pub there : get m file ≡ Some source
-  pub answers : Answers file source events t accepted text
+  pub answers : Answers m file events t accepted text
 
--- a file that the words name is not there: the schedule, or where that reads the source text
+-- a file that the words name is not there: the schedule, or where that reads the source file
 abbrev pub IsLacking : FileMap → List ℕ → List ℕ → Type 0
 IsLacking m schedule file = (get m schedule ≡ None) ⊎ (((events : List Event) × HasSchedule m schedule events) × (get m file ≡ None))
 
@@ -92,7 +95,7 @@ OnStop _ begins quiet = quiet
 abbrev pub OfRun : List (List ℕ) → (List ℕ → List ℕ → Type 0) → Type 0
 OfRun words P = (schedule file : List ℕ) × IsRun words schedule file × P schedule file
 
--- The verdict of the source text by right answers, whichever they are, is the one that the status tells; or there was no memory.
+-- The verdict of the file by what is held of the files, which is right, and by right answers, whichever they are, is the one that the status tells; or there was no memory.
 abbrev pub Decides : FileMap → List ℕ → Status → Type 0
-Decides m file status = (status ≡ statuses.Memory) ⊎ ((source : List ℕ) × (get m file ≡ Some source)
-    × ((t : Seen) (v : Verdict) → AreRightFrom 0 t → Judged file source nothing_seen t v → status ≡ status_of (is_accepted v)))
+Decides m file status = (status ≡ statuses.Memory) ⊎ ((held : Holdings) × AllTold (Some m) held
+    × ((t : Seen) (v : Verdict) → AreRightFrom 0 t → JudgedBy held file nothing_seen t v → status ≡ status_of (is_accepted v)))

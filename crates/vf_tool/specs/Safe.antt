@@ -1,7 +1,8 @@
 -- Safety: what is accepted and linked has no fault and no race on any list of events, and keeps what it owes.
 use Rattle.std.specs.Prelude.{◌≡◌, ℕ, Bool, List, [], ◌∷◌, Some}
-use Rattle.std.specs.FinMap.{get}
 use Rattle.vf_base.specs.Outside.{FileMap}
+use Rattle.vf_snapshot.specs.Holdings.{Holdings}
+use Rattle.vf_expand.specs.Worlds.{AllTold}
 use Rattle.vf_tree.specs.Core.{ProgramTree}
 use Rattle.vf_tree.specs.Shown.{program_of}
 use Rattle.vf_model.specs.declared.words.Event.{Event}
@@ -13,7 +14,7 @@ use Rattle.vf_sound.specs.Environment.{environment_of}
 use Rattle.vf_tool.specs.declared.verdict.Verdict.{Verdict}
 use Rattle.vf_tool.specs.declared.verdict.Verdict.TheVariants.{Accepted, Refused}
 use Rattle.vf_tool.specs.Words.{IsRun}
-use Rattle.vf_tool.specs.Verdict.{Judged}
+use Rattle.vf_tool.specs.Verdict.{JudgedBy}
 use Rattle.vf_tool.specs.Run.{is_accepted}
 
 -- The units have a linked environment. On every list of events the linked program is safe, so that no state that it comes to has a fault of any thread or a race, and keeps what it owes in each linked environment that the units have
@@ -28,14 +29,14 @@ abbrev pub WhereAccepted : Verdict → Type 0
 WhereAccepted (Accepted core) = IsSafeLinked (environment_of core ∷ []) (program_of core.plain)
 WhereAccepted (Refused refusal) = Unit {0}
 
--- The words ask for a run, the source text has a verdict by the questions and answers that a fresh journal gained, and what is accepted is safe.
+-- The words ask for a run, the file has a verdict by what the files tell and by the questions and answers that a fresh journal gained, and what is accepted is safe.
 pub record IsSafeRun (m : FileMap) (words : List (List ℕ)) (t : Seen) (accepted : Bool) : Type 0 where
   pub schedule : List ℕ
   pub file : List ℕ
   pub words_are : IsRun words schedule file
-  pub source : List ℕ
-  pub there : get m file ≡ Some source
+  pub held : Holdings
+  pub told : AllTold (Some m) held
   pub verdict : Verdict
-  pub judged : Judged file source nothing_seen t verdict
+  pub judged : JudgedBy held file nothing_seen t verdict
   pub accepted_is : accepted ≡ is_accepted verdict
   pub safe : WhereAccepted verdict

@@ -1,5 +1,6 @@
 -- The words of the command line.
 use Rattle.std.specs.Prelude.{◌≡◌, ℕ, Bool, not, ◌&&◌, nat_le, ◌==◌, List, [], ◌∷◌, ◌++◌, IsTrue, All, codes}
+use Rattle.vf_snapshot.specs.Paths.{normal}
 
 -- A byte that may stand in a path: it is printed, and no blank, no quote, no '#' and no angle bracket.
 abbrev pub is_path_byte : ℕ → Bool
@@ -11,7 +12,9 @@ pub record IsSourcePath (path : List ℕ) : Type 0 where
   pub stem : List ℕ
   pub ends : path ≡ stem ++ codes ".c"
 
--- The words ask for a run of one source file under a schedule: "run", the schedule's path, and the file's.
+-- The words ask for a run of one source file under a schedule: "run", the schedule's path, and a word that means the file's path.
 pub record IsRun (words : List (List ℕ)) (schedule file : List ℕ) : Type 0 where
-  pub words_are : words ≡ codes "run" ∷ schedule ∷ file ∷ []
-  pub source : IsSourcePath file
+  pub word : List ℕ
+  pub words_are : words ≡ codes "run" ∷ schedule ∷ word ∷ []
+  pub source : IsSourcePath word
+  pub file_is : file ≡ normal [] word

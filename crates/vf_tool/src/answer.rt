@@ -1,18 +1,21 @@
 //! What a run answers: a status, and the text that is to be printed.
 
-ghost use Rattle.std.specs.Prelude.{◌≡◌, ◌++◌, OnOk, IfOk, IfSome, IsErrOf};
+ghost use Rattle.std.specs.Prelude.{◌≡◌, [], ◌++◌, OnOk, IfOk, IfSome, IsErrOf};
 ghost use Rattle.vf_tree.specs.Shown.{program_of};
 ghost use Rattle.std.specs.List.{fold};
 ghost use Rattle.vf_model.specs.Runs.{after};
 ghost use Rattle.vf_machine.specs.Machine.{machine_program, machine_state};
-ghost use Rattle.vf_base.specs.Outside.{Rose};
+ghost use Rattle.vf_base.specs.Outside.{Rose, IsAbsent};
 ghost use Rattle.vf_term.specs.Journal.{seen, nothing_seen};
 ghost use Rattle.vf_term.specs.Right.{AreRightFrom};
 ghost use Rattle.vf_tool.specs.Loaded.{HasNoSchedule};
+ghost use Rattle.vf_snapshot.specs.Paths.{normal};
+ghost use Rattle.vf_tool.specs.Readings.{path_in};
+ghost use Rattle.vf_tool.specs.Words.{IsSourcePath};
 ghost use Rattle.vf_tool.specs.Run.{run_lines, text_of, is_accepted, Answers, IsAnswer, IsLacking};
 
 use crate::lines::{push_accepted, push_linked, push_outcome, push_output, push_refusal};
-use crate::load::{load, load_schedule, stop_of};
+use crate::load::load_schedule;
 use crate::status::Stop;
 use crate::verdict::{Verdict, check_unit};
 use std::alloc::Global;
@@ -20,12 +23,11 @@ use std::mem;
 use vf_base::{Files, Memory, Text};
 use vf_machine::{Machine, assemble_one};
 use vf_model::Event;
+use vf_preproc::path_text;
 use vf_prover::Prover;
+use vf_snapshot::{Snapshot, normal_path};
 use vf_term::Journal;
 use vf_tree::{Plain, erase};
-
-/// The most bytes of a source file.
-const MOST_SOURCE: u64 = 1_048_576;
 
 /// Whether the file is accepted, and what is to be printed.
 #[derive(Debug, Drop)]
@@ -60,17 +62,18 @@ fn follow(machine: &mut Machine, events: &[Event])
 fn push_run(
     alloc: Global,
     text: &mut Text,
+    snapshot: &Snapshot,
     path: &str,
     plain: Plain,
     events: &[Event],
 ) -> Result<(), Memory>
-    ensures { OnOk result (text.new ≡ text.old ++ run_lines path.now (program_of plain) events.now) }
+    ensures { OnOk result (text.new ≡ text.old ++ run_lines (path_in snapshot.now path.now) (program_of plain) events.now) }
 {
     let program = assemble_one(plain)?;
     let mut machine = Machine::start(alloc, program)?;
     follow(&mut machine, events);
     push_output(text, machine.output())?;
-    push_outcome(alloc, text, path, machine.outcome())?;
+    push_outcome(alloc, text, snapshot, path, machine.outcome())?;
     Ok(())
 }
 
@@ -78,19 +81,20 @@ fn push_run(
 fn push_verdict(
     alloc: Global,
     text: &mut Text,
+    snapshot: &Snapshot,
     path: &str,
     events: &[Event],
     verdict: Verdict,
 ) -> Result<(), Memory>
-    ensures { OnOk result (text.new ≡ text.old ++ text_of path.now events.now verdict) }
+    ensures { OnOk result (text.new ≡ text.old ++ text_of snapshot.now path.now events.now verdict) }
 {
     match verdict {
         Verdict::Accepted(core) => {
             push_accepted(text, path)?;
             push_linked(text)?;
-            push_run(alloc, text, path, erase(core), events)?;
+            push_run(alloc, text, snapshot, path, erase(core), events)?;
         }
-        Verdict::Refused(refusal) => push_refusal(alloc, text, path, &refusal)?,
+        Verdict::Refused(refusal) => push_refusal(alloc, text, snapshot, path, &refusal)?,
     }
     Ok(())
 }
@@ -98,61 +102,68 @@ fn push_verdict(
 /// The answer for a verdict.
 fn answer_of(
     alloc: Global,
-    file: &str,
+    snapshot: &Snapshot,
+    path: &str,
     events: &[Event],
     verdict: Verdict,
 ) -> Result<Answer, Memory>
     ensures accepted { IfOk result (λ a. a.accepted ≡ is_accepted verdict) }
-    ensures text { IfOk result (λ a. a.text ≡ text_of file.now events.now verdict) }
+    ensures text { IfOk result (λ a. a.text ≡ text_of snapshot.now path.now events.now verdict) }
 {
     let accepted = match &verdict {
         Verdict::Accepted(_) => true,
         Verdict::Refused(_) => false,
     };
     let mut text = Text::new(alloc);
-    push_verdict(alloc, &mut text, file, events, verdict)?;
+    push_verdict(alloc, &mut text, snapshot, path, events, verdict)?;
     Ok(Answer { accepted, text })
 }
 
-/// Checks a source text with a fresh journal, and prints its verdict and, where that is to accept, its
-/// run.
+/// Checks a file with a fresh journal, and prints its verdict and, where that is to accept, its run.
 #[tactic(auto, using(crate::proofs::Answering::answering))]
-fn judge(
+fn judge<F: Files>(
     alloc: Global,
-    file: &str,
-    source: &[u8],
+    path: &str,
+    files: &mut F,
     events: &[Event],
     journal: &mut Journal,
-) -> Result<Answer, Memory>
+) -> Result<Answer, Stop>
     requires fresh { seen journal.old ≡ nothing_seen }
-    ensures answers { IfOk result (λ a. Answers file.now source.now events.now (seen journal.new) a.accepted a.text) }
+    ensures answers { IfOk result (λ a. IfSome (F.contents files.old) (λ m. Answers m path.now events.now (seen journal.new) a.accepted a.text)) }
+    ensures readable { IsErrOf result Stop.Unreadable → ⊥ }
+    ensures absent { IsErrOf result Stop.Missing → IsAbsent (F.contents files.old) path.now }
+    ensures missing { IsErrOf result Stop.Missing → Rose (F.absences files.old) (F.absences files.new) }
+    ensures failed { IsErrOf result Stop.ReadFault → Rose (F.failures files.old) (F.failures files.new) }
+    ensures unchanged { F.contents files.new ≡ F.contents files.old }
     ensures right { AreRightFrom 0 (seen journal.new) }
 {
+    let mut snapshot = Snapshot::new(alloc);
     let mut prover = Prover::new(mem::replace(journal, Journal::new(alloc)));
-    let verdict = check_unit(alloc, file, source, &mut prover);
+    let verdict = check_unit(alloc, &mut snapshot, files, path, &mut prover);
     *journal = prover.finish();
     match verdict {
-        Ok(verdict) => match answer_of(alloc, file, events, verdict) {
+        Ok(verdict) => match answer_of(alloc, &snapshot, path, events, verdict) {
             Ok(answer) => Ok(answer),
-            Err(memory) => Err(memory),
+            Err(_) => Err(Stop::Memory),
         },
-        Err(memory) => Err(memory),
+        Err(stop) => Err(stop),
     }
 }
 
-/// What a run of a source file under a schedule answers.
+/// What a run of the source file that a word means answers, under a schedule.
 #[tactic(auto, using(crate::proofs::Answering::telling))]
 pub fn run_answer<F: Files>(
     alloc: Global,
     schedule: &str,
-    file: &str,
+    word: &str,
     files: &mut F,
     journal: &mut Journal,
 ) -> Result<Answer, Stop>
     requires fresh { seen journal.old ≡ nothing_seen }
-    ensures answered { IfOk result (λ a. IfSome (F.contents files.old) (λ m. IsAnswer m schedule.now file.now (seen journal.new) a.accepted a.text)) }
+    requires source { IsSourcePath word.now }
+    ensures answered { IfOk result (λ a. IfSome (F.contents files.old) (λ m. IsAnswer m schedule.now (normal [] word.now) (seen journal.new) a.accepted a.text)) }
     ensures unreadable { IsErrOf result Stop.Unreadable → IfSome (F.contents files.old) (λ m. HasNoSchedule m schedule.now) }
-    ensures lacking { IsErrOf result Stop.Missing → IfSome (F.contents files.old) (λ m. IsLacking m schedule.now file.now) }
+    ensures lacking { IsErrOf result Stop.Missing → IfSome (F.contents files.old) (λ m. IsLacking m schedule.now (normal [] word.now)) }
     ensures missing { IsErrOf result Stop.Missing → Rose (F.absences files.old) (F.absences files.new) }
     ensures failed { IsErrOf result Stop.ReadFault → Rose (F.failures files.old) (F.failures files.new) }
     ensures unchanged { F.contents files.new ≡ F.contents files.old }
@@ -162,12 +173,13 @@ pub fn run_answer<F: Files>(
         Ok(events) => events,
         Err(stop) => return Err(stop),
     };
-    let source = match load(alloc, files, file, MOST_SOURCE) {
-        Ok(source) => source,
-        Err(fault) => return Err(stop_of(fault)),
+    let path = match normal_path(alloc, "", word) {
+        Ok(path) => path,
+        Err(_) => return Err(Stop::Memory),
     };
-    match judge(alloc, file, source.as_slice(), events.as_slice(), journal) {
+    let file = path_text(path.as_bytes());
+    match judge(alloc, file, files, events.as_slice(), journal) {
         Ok(answer) => Ok(answer),
-        Err(_) => Err(Stop::Memory),
+        Err(stop) => Err(stop),
     }
 }

@@ -4,6 +4,7 @@
 mod answer;
 mod lines;
 mod load;
+mod reading;
 mod run;
 mod status;
 #[cfg(test)]

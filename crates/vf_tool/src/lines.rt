@@ -2,11 +2,13 @@
 
 ghost use Rattle.std.specs.Prelude.{◌≡◌, ◌++◌, OnOk, codes};
 ghost use Rattle.std.specs.Fmt.{decimal, signed_decimal};
+ghost use Rattle.vf_tool.specs.Readings.{path_in};
 ghost use Rattle.vf_tool.specs.Lines.{line, shown_place, accepted_line, refusal_line, linked_line, kind_name, shown_outcome, outcome_line, closed_output};
 
 use std::alloc::Global;
 use vf_base::{Memory, Place, Refusal, Text};
 use vf_model::{FaultKind, Outcome};
+use vf_snapshot::Snapshot;
 
 fn push_number(alloc: Global, text: &mut Text, number: u32) -> Result<(), Memory>
     ensures { OnOk result (text.new ≡ text.old ++ decimal number) }
@@ -24,10 +26,27 @@ fn push_signed(alloc: Global, text: &mut Text, number: i128) -> Result<(), Memor
     Ok(())
 }
 
-fn push_place(alloc: Global, text: &mut Text, path: &str, place: Place) -> Result<(), Memory>
-    ensures { OnOk result (text.new ≡ text.old ++ shown_place path.now place) }
+/// The path of the file with a number, or the named one where no file has it.
+fn path_in<'a>(snapshot: &'a Snapshot, path: &'a str, file: u32) -> &'a str
+    ensures { result.now ≡ path_in snapshot.now path.now file }
 {
-    text.push_bytes(path.as_bytes())?;
+    if (file as usize) < snapshot.len() {
+        snapshot.path(file)
+    } else {
+        path
+    }
+}
+
+fn push_place(
+    alloc: Global,
+    text: &mut Text,
+    snapshot: &Snapshot,
+    path: &str,
+    place: Place,
+) -> Result<(), Memory>
+    ensures { OnOk result (text.new ≡ text.old ++ shown_place (path_in snapshot.now path.now) place) }
+{
+    text.push_bytes(path_in(snapshot, path, place.file).as_bytes())?;
     text.push_bytes(b":")?;
     push_number(alloc, text, place.line)?;
     text.push_bytes(b":")?;
@@ -44,16 +63,17 @@ pub fn push_accepted(text: &mut Text, path: &str) -> Result<(), Memory>
     Ok(())
 }
 
-/// Prints a refusal.
+/// Prints a refusal, of the file at a path or of one that it includes.
 pub fn push_refusal(
     alloc: Global,
     text: &mut Text,
+    snapshot: &Snapshot,
     path: &str,
     refusal: &Refusal,
 ) -> Result<(), Memory>
-    ensures { OnOk result (text.new ≡ text.old ++ refusal_line path.now refusal.now) }
+    ensures { OnOk result (text.new ≡ text.old ++ refusal_line (path_in snapshot.now path.now) refusal.now) }
 {
-    push_place(alloc, text, path, refusal.place)?;
+    push_place(alloc, text, snapshot, path, refusal.place)?;
     text.push_bytes(b": rule ")?;
     push_number(alloc, text, refusal.rule.number())?;
     text.push_bytes(b" ")?;
@@ -89,16 +109,17 @@ fn kind_name(kind: FaultKind) -> &'static str
 fn push_fault(
     alloc: Global,
     text: &mut Text,
+    snapshot: &Snapshot,
     path: &str,
     kind: FaultKind,
     place: Place,
 ) -> Result<(), Memory>
-    ensures { OnOk result (text.new ≡ text.old ++ shown_outcome path.now (Outcome.Fault kind place)) }
+    ensures { OnOk result (text.new ≡ text.old ++ shown_outcome (path_in snapshot.now path.now) (Outcome.Fault kind place)) }
 {
     text.push_bytes(b"fault ")?;
     text.push_bytes(kind_name(kind).as_bytes())?;
     text.push_bytes(b" ")?;
-    push_place(alloc, text, path, place)?;
+    push_place(alloc, text, snapshot, path, place)?;
     Ok(())
 }
 
@@ -114,17 +135,18 @@ fn push_returned(alloc: Global, text: &mut Text, number: i128) -> Result<(), Mem
 pub fn push_outcome(
     alloc: Global,
     text: &mut Text,
+    snapshot: &Snapshot,
     path: &str,
     outcome: Outcome,
 ) -> Result<(), Memory>
-    ensures { OnOk result (text.new ≡ text.old ++ outcome_line path.now outcome) }
+    ensures { OnOk result (text.new ≡ text.old ++ outcome_line (path_in snapshot.now path.now) outcome) }
 {
     match outcome {
         Outcome::Returned(number) => push_returned(alloc, text, number)?,
         Outcome::Aborted => text.push_bytes(b"aborted")?,
         Outcome::Blocked => text.push_bytes(b"blocked")?,
         Outcome::Running => text.push_bytes(b"running")?,
-        Outcome::Fault(kind, place) => push_fault(alloc, text, path, kind, place)?,
+        Outcome::Fault(kind, place) => push_fault(alloc, text, snapshot, path, kind, place)?,
     }
     text.push_bytes(b"\n")?;
     Ok(())

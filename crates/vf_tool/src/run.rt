@@ -18,8 +18,8 @@ use std::alloc::Global;
 use vf_base::{Files, Sink, SinkFault, write_all};
 use vf_term::Journal;
 
-/// Does what the words after the program's name ask for: `run`, the path of a schedule, and the path of
-/// a source file. The file is checked by itself, linked and run under the schedule, and what came of it
+/// Does what the words after the program's name ask for: `run`, the path of a schedule, and a word that
+/// means the path of a source file. The file is checked by itself, linked and run under the schedule, and what came of it
 /// is printed at the end. The journal is handed in fresh, and gains every question with its answer.
 pub fn run_words<F: Files, S: Sink>(
     alloc: Global,
@@ -57,7 +57,7 @@ pub fn run_words<F: Files, S: Sink>(
     ensures never { CanCome result }
 
     // Where the words are those of a run, no count rises, and the schedule reads, the file has a verdict
-    // by right answers, and the status tells it, or there was no memory.
+    // by what the files tell and by right answers, and the status tells it, or there was no memory.
     ensures complete { (m : FileMap) → F.contents files.old ≡ Some m → (schedule file : List ℕ) → IsRun (map (λ w. string_bytes w) words.now) schedule file
         → (Rose (F.failures files.old) (F.failures files.new) → ⊥) → (Rose (F.absences files.old) (F.absences files.new) → ⊥) → (Rose (S.failures out.old) (S.failures out.new) → ⊥)
         → (events : List Event) → HasSchedule m schedule events → Decides m file result }
@@ -66,7 +66,7 @@ pub fn run_words<F: Files, S: Sink>(
         Some(run) => run,
         None => return Status::Usage,
     };
-    let answer = match run_answer(alloc, run.schedule, run.file, files, journal) {
+    let answer = match run_answer(alloc, run.schedule, run.word, files, journal) {
         Ok(answer) => answer,
         Err(stop) => return stop.status(),
     };

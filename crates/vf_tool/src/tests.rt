@@ -29,6 +29,8 @@ struct Case<'a> {
     schedule: Option<&'a str>,
     /// What `a.c` holds, if it is there.
     source: Option<&'a str>,
+    /// What `h.h` holds, if it is there.
+    header: Option<&'a str>,
     failing_read: Option<u64>,
     failing_write: Option<u64>,
     status: Status,
@@ -41,6 +43,7 @@ fn call<'a>(schedule: &'a str, source: &'a str, status: Status, printed: &'a str
         words: RUN,
         schedule: Some(schedule),
         source: Some(source),
+        header: None,
         failing_read: None,
         failing_write: None,
         status,
@@ -74,6 +77,9 @@ fn check(rt: &impl std::process::Abort, alloc: Global, case: &Case<'_>) -> Resul
     }
     if let Some(source) = case.source {
         files.set("a.c", source.as_bytes())?;
+    }
+    if let Some(header) = case.header {
+        files.set("h.h", header.as_bytes())?;
     }
     let mut out = MemorySink::new(alloc, numbers(alloc, case.failing_write)?, 4);
     let words = strings(alloc, case.words)?;
@@ -118,9 +124,127 @@ fn answers(rt: HostRuntime) -> Result<(), Fail> {
             "a.c: accepted\nlinked\nreturned 0\n",
         ),
         call(FIVE, "", Status::Refused, "a.c:1:1: rule 11 unsupported\n"),
+        Case {
+            words: &["run", "s.json", "./x/../a.c"],
+            ..call(FIVE, TWO, Status::Refused, "a.c:3:13: rule 24 pure\n")
+        },
     ];
     for case in &cases {
         check(&rt, rt.alloc(), case)?;
+    }
+    Ok(())
+}
+
+/// Files of the first form and of others: what `a.c` and `h.h` hold, the status, and what is printed.
+#[test]
+fn readings(rt: HostRuntime) -> Result<(), Fail> {
+    const ACCEPTED: &str = "a.c: accepted\nlinked\nreturned 7\n";
+    const OTHER: &str = "a.c:1:1: rule 11 unsupported\n";
+    let rows = [
+        (
+            "#include \"h.h\"\nint main() /* a comment */\n//@ requires TRUTH; ensures result == END;\n{ int x = START; return x + 4; }",
+            "#define START 3\n#define END 7\n#define TRUTH true\n",
+            Status::Done,
+            ACCEPTED,
+        ),
+        (
+            "int main(void)\n/*@ requires true;\n  ensures result == 0x7; @*/\n{ int x = 010; int y = 1; x = x - y; return x; }",
+            "",
+            Status::Done,
+            ACCEPTED,
+        ),
+        (
+            "#include \"x.h\"\n",
+            "",
+            Status::Refused,
+            "a.c:1:1: rule 2 include\n",
+        ),
+        (
+            "#include \"h.h\"\n",
+            "int x;\n@",
+            Status::Refused,
+            "h.h:2:1: rule 1 lex\n",
+        ),
+        (
+            "\n#if 1\n",
+            "",
+            Status::Refused,
+            "a.c:2:1: rule 3 directive\n",
+        ),
+        (
+            "int main(",
+            "",
+            Status::Refused,
+            "a.c:1:10: rule 4 syntax\n",
+        ),
+        (
+            "#include \"h.h\"\n",
+            "struct s {\n  int 5;\n};\n",
+            Status::Refused,
+            "h.h:2:7: rule 4 syntax\n",
+        ),
+        (
+            "void f() { goto x; }",
+            "",
+            Status::Refused,
+            "a.c:1:12: rule 11 unsupported\n",
+        ),
+        (
+            "#include \"h.h\"\n",
+            "int main()\n//@ requires true;\n//@ ensures true;\n{ return 7; }",
+            Status::Refused,
+            OTHER,
+        ),
+        ("struct s;", "", Status::Refused, OTHER),
+        (
+            "int main()\n//@ requires true;\n//@ ensures true;\n{ return x; }",
+            "",
+            Status::Refused,
+            OTHER,
+        ),
+        (
+            "int main()\n//@ requires true;\n//@ ensures true;\n{ int x = x; return 7; }",
+            "",
+            Status::Refused,
+            OTHER,
+        ),
+        (
+            "int main()\n//@ requires true;\n//@ ensures true;\n{ int x = 7; int x = 7; return x; }",
+            "",
+            Status::Refused,
+            OTHER,
+        ),
+        (
+            "int main()\n//@ requires true;\n//@ ensures true;\n{ unsigned x = 7; return x; }",
+            "",
+            Status::Refused,
+            OTHER,
+        ),
+        (
+            "int main()\n//@ requires true;\n//@ ensures true;\n{ return 7u; }",
+            "",
+            Status::Refused,
+            OTHER,
+        ),
+        (
+            "int main()\n//@ requires true;\n//@ ensures true;\n{ return 7; return 7; }",
+            "",
+            Status::Refused,
+            OTHER,
+        ),
+        (
+            "int main()\n//@ requires true;\n//@ ensures true;\n{ int x = 7; x += 1; return x; }",
+            "",
+            Status::Refused,
+            OTHER,
+        ),
+    ];
+    for (source, header, status, printed) in rows {
+        let case = Case {
+            header: Some(header),
+            ..call(FIVE, source, status, printed)
+        };
+        check(&rt, rt.alloc(), &case)?;
     }
     Ok(())
 }

@@ -1,13 +1,15 @@
 //! The words of the command line.
 
-ghost use Rattle.std.specs.Prelude.{◌≡◌, ◌↔◌, IsTrue, All, IfSome, IfNone, ◌++◌, map, List, ℕ, string_bytes, codes};
+ghost use Rattle.std.specs.Prelude.{◌≡◌, ◌↔◌, IsTrue, All, IfSome, IfNone, [], ◌++◌, map, List, ℕ, string_bytes, codes};
+ghost use Rattle.vf_snapshot.specs.Paths.{normal};
 ghost use Rattle.vf_tool.specs.Words.{is_path_byte, IsSourcePath, IsRun};
 
 /// The words of the command `run`: verify, link and run a source file under a schedule.
 #[derive(Clone, Copy, Debug)]
 pub struct RunWords<'a> {
     pub schedule: &'a str,
-    pub file: &'a str,
+    /// Means the path of the source file, and may have parts that are not needed.
+    pub word: &'a str,
 }
 
 fn is_path_byte(byte: u8) -> bool
@@ -59,18 +61,19 @@ fn names_run(word: &str) -> bool
 
 /// The schedule and the file of a run, where the words ask for one.
 pub fn run_words_of(words: &[String]) -> Option<RunWords<'_>>
-    ensures found { IfSome result (λ r. IsRun (map (λ w. string_bytes w) words.now) r.schedule.now r.file.now) }
+    ensures found { IfSome result (λ r. IsRun (map (λ w. string_bytes w) words.now) r.schedule.now (normal [] r.word.now)) }
+    ensures source { IfSome result (λ r. IsSourcePath r.word.now) }
     ensures none { IfNone result ((schedule file : List ℕ) → IsRun (map (λ w. string_bytes w) words.now) schedule file → ⊥) }
 {
     match words {
-        [name, schedule, file] => {
-            let file = file.as_str();
+        [name, schedule, word] => {
+            let word = word.as_str();
             let is_run = names_run(name.as_str());
-            let is_source = is_source_path(file);
+            let is_source = is_source_path(word);
             if is_run && is_source {
                 Some(RunWords {
                     schedule: schedule.as_str(),
-                    file,
+                    word,
                 })
             } else {
                 None

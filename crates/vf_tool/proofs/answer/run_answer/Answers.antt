@@ -1,6 +1,6 @@
--- What was read is what the files tell.
-use Rattle.vf_tool.proofs.Answering.{told_by}
+-- The path that a source word means is of ASCII.
+use Rattle.vf_tool.proofs.Scoped.{source_ascii}
 use Rattle.vf_tool.proofs.answer.run_answer.Goals as goal
 
-pub returns-in-Ok-judge-clause-answered : goal.returns-in-Ok-judge-clause-answered
-returns-in-Ok-judge-clause-answered g c = told_by _ _ _ _ c.in-Ok-load.source.items _ _ _ _ _ _ c.in-Ok.ensures.unchanged c.as_slice.ensures.value c.as_slice-2.ensures c.in-Ok.ensures.ok c.in-Ok-load.ensures.ok c.in-Ok-judge.ensures.answers
+pub path_text-file-requires : goal.path_text-file-requires
+path_text-file-requires g c = rw (c.as_bytes.ensures, c.in-Ok-normal_path.ensures) (source_ascii c.args.word.now c.requires.source)

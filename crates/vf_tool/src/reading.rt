@@ -1,0 +1,124 @@
+//! Reading a file: expanding it, parsing its unit, and taking its core.
+
+ghost use Rattle.std.specs.Prelude.{◌≡◌, ℕ, IfOk, IsErrOf, Some};
+ghost use Rattle.vf_base.specs.Outside.{Rose};
+ghost use Rattle.vf_snapshot.specs.declared.held.Held.TheVariants as known;
+ghost use Rattle.vf_snapshot.specs.Holdings.{IsHeldAt};
+ghost use Rattle.vf_preproc.specs.UnitText.{Library};
+ghost use Rattle.vf_preproc.specs.Units.{Tells};
+ghost use Rattle.vf_expand.specs.Worlds.{world, Reads};
+ghost use Rattle.vf_expand.specs.Wholes.{text_of};
+ghost use Rattle.vf_tool.specs.Readings.{refusal_at, unsupported, refused, core_or, core_of, reading_of, result_of};
+ghost use Rattle.vf_first.specs.FirstForm.{first_form};
+
+use crate::status::Stop;
+use std::alloc::Global;
+use vf_base::{Files, Memory, Place, Refusal, Rule, Shown};
+use vf_expand::{UnitTokens, expand};
+use vf_first::first_form;
+use vf_parse::parse::parse;
+use vf_parse_c::fault::ParseFault;
+use vf_preproc::ExpandFault;
+use vf_snapshot::Snapshot;
+use vf_syntax::item::Unit;
+use vf_tree::Core;
+
+/// What came of reading a file.
+#[derive(Debug, Drop)]
+pub enum Reading {
+    /// The core of its unit.
+    Core(Core),
+    /// Its first refusal.
+    Refused(Refusal),
+}
+
+/// A refusal by a rule at a place.
+fn refusal_at(rule: Rule, place: Place) -> Refusal
+    ensures { result ≡ refusal_at rule place }
+{
+    Refusal {
+        rule,
+        place,
+        shown: Shown::Nothing,
+    }
+}
+
+/// The refusal of a file that is not of the form whose rules there are.
+fn unsupported(file: u32) -> Refusal
+    ensures { result ≡ unsupported file }
+{
+    refusal_at(
+        Rule::Unsupported,
+        Place {
+            file,
+            line: 1,
+            column: 1,
+        },
+    )
+}
+
+/// The core of a unit that is of the first form.
+fn read_items(alloc: Global, path: &str, file: u32, unit: &Unit) -> Result<Reading, Memory>
+    ensures { IfOk result (λ r. result_of r ≡ core_or file (first_form path.now file unit.now.items)) }
+{
+    match first_form(alloc, path, file, unit)? {
+        Some(core) => Ok(Reading::Core(core)),
+        None => Ok(Reading::Refused(unsupported(file))),
+    }
+}
+
+/// The refusal for a fault of the parser.
+fn refused(fault: ParseFault) -> Result<Reading, Memory>
+    ensures { IfOk result (λ r. refused fault ≡ Some (result_of r)) }
+{
+    match fault {
+        ParseFault::Unsupported(place) => {
+            Ok(Reading::Refused(refusal_at(Rule::Unsupported, place)))
+        }
+        ParseFault::Syntax(place) => Ok(Reading::Refused(refusal_at(Rule::Syntax, place))),
+        ParseFault::Depth(place) => Ok(Reading::Refused(refusal_at(Rule::Depth, place))),
+        ParseFault::Memory => Err(Memory),
+    }
+}
+
+/// The core of a unit, or its first refusal.
+fn read_unit(alloc: Global, path: &str, unit: UnitTokens) -> Result<Reading, Memory>
+    ensures { IfOk result (λ r. result_of r ≡ core_of path.now (text_of unit)) }
+{
+    let UnitTokens {
+        tokens,
+        headers,
+        end,
+    } = unit;
+    match parse(alloc, tokens.as_slice(), headers, end) {
+        Ok(unit) => read_items(alloc, path, end.file, &unit),
+        Err(fault) => refused(fault),
+    }
+}
+
+/// What the file at a path reads as. The snapshot holds what was asked for of the files.
+pub fn read_file<F: Files>(
+    alloc: Global,
+    snapshot: &mut Snapshot,
+    files: &mut F,
+    path: &str,
+) -> Result<Reading, Stop>
+    ensures read { IfOk result (λ r. (library : Library) → Tells library snapshot.new → reading_of library path.now ≡ Some (result_of r)) }
+    ensures missing { IsErrOf result Stop.Missing → (number : ℕ) × IsHeldAt snapshot.new path.now number known.Missing }
+    ensures read_fault { IsErrOf result Stop.ReadFault → Rose (F.failures files.old) (F.failures files.new) }
+    ensures readable { IsErrOf result Stop.Unreadable → ⊥ }
+    ensures reads { Reads
+        (world snapshot.old (F.contents files.old) (F.failures files.old) (F.absences files.old) (F.put_failures files.old))
+        (world snapshot.new (F.contents files.new) (F.failures files.new) (F.absences files.new) (F.put_failures files.new)) }
+{
+    match expand(alloc, snapshot, files, path) {
+        Ok(unit) => match read_unit(alloc, path, unit) {
+            Ok(reading) => Ok(reading),
+            Err(_) => Err(Stop::Memory),
+        },
+        Err(ExpandFault::Refused(refusal)) => Ok(Reading::Refused(refusal)),
+        Err(ExpandFault::Missing) => Err(Stop::Missing),
+        Err(ExpandFault::ReadFault) => Err(Stop::ReadFault),
+        Err(ExpandFault::Memory) => Err(Stop::Memory),
+    }
+}

@@ -1,0 +1,3 @@
+#include "no.h"
+int main() //@ requires true; ensures true;
+{ return 0; }

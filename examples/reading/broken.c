@@ -1,0 +1,5 @@
+#include "broken.h"
+int main()
+//@ requires true;
+//@ ensures true;
+{ return 0; }

@@ -1,0 +1,4 @@
+#ifndef SEVEN
+#define SEVEN (7) /* the answer */
+#endif
+#define THREE 3
