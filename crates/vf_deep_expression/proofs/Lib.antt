@@ -1,0 +1,7 @@
+pub mod Deeper
+pub mod Begun
+pub mod Types
+pub mod Expressions
+pub mod Starts
+pub mod Whole
+pub mod Answers
