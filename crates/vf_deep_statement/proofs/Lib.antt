@@ -1,0 +1,4 @@
+pub mod Simples
+pub mod Statements
+pub mod Starts
+pub mod Whole
