@@ -40,6 +40,15 @@ here_at_begun p g (t ∷ ts) v b hg = bind_begun v (suc (length ts)) (p (t ∷ t
 pub here_begun : {A B : Type 0} {begins : List Token → Bool} {p : Parser A} {g : Place → A → Parser B} → Begun begins p → ((h : Place) (a : A) → Keeps (g h a)) → Begun begins (λ ts. here_at ts >>= λ h. p h.1 >>= λ a. g h.0 a.0 a.1)
 here_begun {begins = begins} {p = p} {g = g} hp hg = record { run = λ ts. here_at_begun p g ts (begins ts) (hp.run ts) hg }
 
+form_begun : {A : Type 0} {begins : List Token → Bool} (f : Place → Parser A) → begins [] ≡ false → ((p : Place) → Begun begins (f p)) → (ts : List Token) → BegunAt (begins ts) (length ts) (here_at ts >>= λ h. f h.0 h.1)
+unfolding here_at
+form_begun f none h [] = rw none refl
+form_begun f none h (t ∷ ts) = (h t.place).run (t ∷ ts)
+
+-- what is read at the place of the next token
+pub at_here_begun : {A : Type 0} {begins : List Token → Bool} (f : Place → Parser A) → begins [] ≡ false → ((p : Place) → Begun begins (f p)) → Begun begins (λ ts. here_at ts >>= λ h. f h.0 h.1)
+at_here_begun f none h = record { run = form_begun f none h }
+
 take_one : (t : Token) (ts : List Token) (v : Bool) → BegunAt v (suc (length ts)) (if v then ok t ts else Err (Syntax (suc (length ts))))
 take_one t ts true = omega arith
 take_one t ts false = refl

@@ -9,6 +9,7 @@ use Rattle.vf_lexer.specs.declared.token.Kind.{Kind}
 use Rattle.vf_lexer.specs.declared.token.Kind.TheVariants as kinds
 use Rattle.vf_lexer.specs.declared.token.Token.{Token}
 use Rattle.vf_syntax.specs.declared.keyword.Keyword.TheVariants as keywords
+use Rattle.vf_syntax.specs.declared.side.Side.{Side}
 use Rattle.vf_syntax.specs.declared.side.Side.TheVariants.{Real}
 use Rattle.vf_syntax.specs.declared.operator.UnaryOperator.{UnaryOperator}
 use Rattle.vf_syntax.specs.declared.operator.UnaryOperator.TheVariants as unaries
@@ -109,10 +110,10 @@ unary_kind false k o e = absurd cc
 unary_kind true (kinds.Punctuator p) o e = rw (unary_known p o e) (same_mark (unary_mark o))
 unary_kind true k o e = absurd cc
 
-unary_marked : (ts : List Token) (o : UnaryOperator) → next_unary Real ts ≡ Some o → head_has (is_mark Real (unary_mark o)) ts ≡ true
+pub unary_marked : (s : Side) (ts : List Token) (o : UnaryOperator) → next_unary s ts ≡ Some o → head_has (is_mark s (unary_mark o)) ts ≡ true
 unfolding next_unary is_mark
-unary_marked [] o e = absurd cc
-unary_marked (t ∷ ts) o e = unary_kind (is_on Real t) t.kind o e
+unary_marked s [] o e = absurd cc
+unary_marked s (t ∷ ts) o e = unary_kind (is_on s t) t.kind o e
 
 signed_starts : {u v : Parser ExprTree} → Deeper 0 u v → (o : UnaryOperator) → Begun (head_has (is_mark Real (unary_mark o))) (signed_at v o)
 unfolding signed_at
@@ -120,7 +121,7 @@ signed_starts hu o = then_begun (mark_begun Real (unary_mark o)) (λ m. keeps (t
 
 operand_by : {e g u v f h : Parser ExprTree} → Deeper 0 e g → Deeper 0 u v → Deeper 0 f h → (ts : List Token) (o : Option UnaryOperator) → next_unary Real ts ≡ o → BegunAt (is_there o || sees_primary ts) (length ts) (found_operand g v h o ts)
 operand_by he hu hf ts None e = (unsigned_starts he hu hf).run ts
-operand_by {v = v} he hu hf ts (Some o) e = begun_as _ true (length ts) (signed_at v o ts) (unary_marked ts o e) refl ((signed_starts hu o).run ts)
+operand_by {v = v} he hu hf ts (Some o) e = begun_as _ true (length ts) (signed_at v o ts) (unary_marked Real ts o e) refl ((signed_starts hu o).run ts)
 
 pub operand_starts : {e g u v f h : Parser ExprTree} → Deeper 0 e g → Deeper 0 u v → Deeper 0 f h → Begun sees_operand (whole_operand_at g v h)
 unfolding whole_operand_at sees_operand

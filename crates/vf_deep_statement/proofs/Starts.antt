@@ -1,5 +1,5 @@
 -- What begins a statement is taken, and what does not is refused at once.
-use Rattle.std.proofs.Common.{◌≡◌, Bool, true, false, ◌&&◌, ◌||◌, List, [], ◌∷◌, length, Option, Some, None, refl, sym, subst, ◌∙◌}
+use Rattle.std.proofs.Common.{◌≡◌, Bool, true, false, ◌&&◌, ◌||◌, List, [], ◌∷◌, length, Option, Some, None, refl, sym, ◌∙◌}
 use Rattle.std.specs.Prelude.{if◌then◌else◌}
 use Rattle.std.proofs.lemmas.Bool.{or_parts}
 use Rattle.vf_lexer.specs.declared.punctuator.Punctuator.{Punctuator}
@@ -13,10 +13,6 @@ use Rattle.vf_syntax.specs.declared.side.Grammar.{Grammar}
 use Rattle.vf_syntax.specs.declared.contract.Invariant.{Invariant}
 use Rattle.vf_syntax.specs.declared.operator.StepOperator.{StepOperator}
 use Rattle.vf_syntax.specs.declared.operator.StepOperator.TheVariants as steps
-use Rattle.vf_syntax.specs.declared.written.Sign.TheVariants as signs
-use Rattle.vf_syntax.specs.declared.written.Width.TheVariants as widths
-use Rattle.vf_syntax.specs.declared.written.IntegerWords.TheVariants as integers
-use Rattle.vf_syntax.specs.declared.written.TypeForm.TheVariants as forms
 use Rattle.vf_syntax.specs.declared.simple.Simple.TheVariants as simples
 use Rattle.vf_syntax.specs.ExprTree.{ExprTree}
 use Rattle.vf_syntax.specs.StmtTree.{StmtTree, stmt_list}
@@ -25,72 +21,22 @@ use Rattle.vf_syntax.specs.Statements.{is_left_side}
 use Rattle.vf_syntax.specs.Walks.{head_has, is_on, is_punctuator, is_mark, is_word, is_name}
 use Rattle.vf_syntax.specs.Written.{step_mark, step_of}
 use Rattle.vf_cursor.specs.Parsing.{Parser, punctuator_of, next_by, number_of, character_of, is_there}
-use Rattle.vf_cursor.specs.Types.{is_sign, is_width, is_type_word, next_step, found_then, sign_at, width_at, integer_at, number_type_at, type_form_at, ctype_at, is_int_alone}
+use Rattle.vf_cursor.specs.Types.{is_type_word, next_step, found_then}
 use Rattle.vf_parse_expression.specs.Operands.{sees_primary}
 use Rattle.vf_parse_simple.specs.Simples.{sees_declaration, declared_at, step_before_at, simple_by, simple_at}
 use Rattle.vf_parse_statement.specs.Parsers.{sees_statement_word, sees_statement, declaration_at, simple_statement_at, return_at, empty_at, flat_at, if_at, while_head_at, while_of, while_at, for_head_at, for_of, for_at, is_inside, stmts_by, body_by, block_by, real_by}
-use Rattle.vf_deep_expression.proofs.Deeper.{Deeper, keeps, then_deep, done_deep, fail_deep, mark_deep, name_deep, choice_deep, fixed_deep, items_deep}
-use Rattle.vf_deep_expression.proofs.Begun.{BegunAt, Begun, then_begun, here_begun, mark_begun, word_begun, name_begun, choice_begun}
+use Rattle.vf_deep_expression.proofs.Deeper.{Deeper, keeps, then_deep, done_deep, fail_deep, mark_deep, name_deep, fixed_deep, items_deep}
+use Rattle.vf_deep_expression.proofs.Begun.{BegunAt, Begun, then_begun, here_begun, mark_begun, word_begun, choice_begun}
+use Rattle.vf_deep_expression.proofs.TypeStarts.{begun_by, types_begin, type_starts}
 use Rattle.vf_deep_expression.proofs.Starts.{same_mark, begun_as}
-use Rattle.vf_deep_expression.proofs.Types.{short_deep, long_deep, signed_width_deep, struct_pointer_deep}
 use Rattle.vf_deep_statement.proofs.Simples.{optional_value_deep, behind_deep}
 use Rattle.vf_deep_statement.proofs.Statements.{body_of, owed_deep, optional_expr_deep, condition_deep, for_parts_deep, branches_deep}
 
--- the same beginnings, told otherwise
-begun_by : {A : Type 0} {begins others : List Token → Bool} {p : Parser A} → ((ts : List Token) → begins ts ≡ others ts) → Begun begins p → Begun others p
-begun_by {p = p} same h = record { run = λ ts. subst (λ v. BegunAt v (length ts) (p ts)) (same ts) (h.run ts) }
-
--- the words of a type
-sign_starts : Begun (λ ts. head_has (is_word Real keywords.Signed) ts || head_has (is_word Real keywords.Unsigned) ts) (sign_at Real)
-unfolding sign_at
-sign_starts = choice_begun (then_begun (word_begun Real keywords.Signed) (λ x. keeps (done_deep {j = 0} signs.Signed))) (then_begun (word_begun Real keywords.Unsigned) (λ x. keeps (done_deep {j = 0} signs.Unsigned)))
-
--- the words of a width, from the first that is looked for
-abbrev widths_seen : List Token → Bool
-widths_seen ts = head_has (is_word Real keywords.Char) ts || (head_has (is_word Real keywords.Short) ts || (head_has (is_word Real keywords.Long) ts || head_has (is_word Real keywords.Int) ts))
-
-width_starts : Begun widths_seen (width_at Real)
-unfolding width_at
-width_starts =
-    choice_begun (then_begun (word_begun Real keywords.Char) (λ x. keeps (done_deep {j = 0} widths.Char))) (choice_begun (then_begun (word_begun Real keywords.Short) (λ x. keeps (short_deep {j = 0} Real)))
-    (choice_begun (then_begun (word_begun Real keywords.Long) (λ x. keeps (long_deep {j = 0} Real))) (then_begun (word_begun Real keywords.Int) (λ x. keeps (done_deep {j = 0} widths.Int)))))
-
--- a sign, as it is looked for
-sign_told : (ts : List Token) → (head_has (is_word Real keywords.Signed) ts || head_has (is_word Real keywords.Unsigned) ts) ≡ head_has (is_sign Real) ts
-unfolding is_sign
-sign_told [] = refl
-sign_told (t ∷ ts) = refl
-
-integer_starts : Begun (λ ts. head_has (is_sign Real) ts || widths_seen ts) (integer_at Real)
-unfolding integer_at
-integer_starts = choice_begun (then_begun (begun_by sign_told sign_starts) (λ g. keeps (signed_width_deep {j = 0} Real g))) (then_begun width_starts (λ w. keeps (done_deep {j = 0} (integers.Width w))))
-
-number_type_starts : Begun (λ ts. head_has (is_sign Real) ts || widths_seen ts) (number_type_at Real)
-unfolding number_type_at
-number_type_starts = then_begun integer_starts (λ w. keeps (choice_deep {j = 0} (λ ts. is_int_alone w && head_has (is_mark Real punctuators.Star) ts) (then_deep (mark_deep Real punctuators.Star) (λ x. done_deep forms.IntPointer)) (done_deep (forms.Integer w))))
-
--- the first word of a type
-abbrev types_seen : List Token → Bool
-types_seen ts = head_has (is_word Real keywords.Bool) ts || (head_has (is_word Real keywords.Void) ts || (head_has (is_word Real keywords.Struct) ts || (head_has (is_name Real) ts || (head_has (is_sign Real) ts || widths_seen ts))))
-
-form_starts : Begun types_seen (type_form_at Real)
-unfolding type_form_at
-form_starts =
-    choice_begun (then_begun (word_begun Real keywords.Bool) (λ x. keeps (done_deep {j = 0} forms.Bool)))
-    (choice_begun (then_begun (word_begun Real keywords.Void) (λ x. keeps (then_deep {j = 0} (mark_deep Real punctuators.Star) (λ y. done_deep forms.VoidPointer))))
-    (choice_begun (then_begun (word_begun Real keywords.Struct) (λ x. keeps (struct_pointer_deep {j = 0} Real)))
-    (choice_begun (then_begun (name_begun Real) (λ n. keeps (then_deep {j = 0} (mark_deep Real punctuators.Star) (λ x. done_deep (forms.NamedPointer n.text)))))
-    number_type_starts)))
-
-type_starts : Begun types_seen (ctype_at Real)
-unfolding ctype_at
-type_starts = here_begun form_starts (λ p f. keeps (done_deep {j = 0} (record { place = p; form = f })))
-
-declared_starts : Begun types_seen declared_at
+declared_starts : Begun (types_begin Real) declared_at
 unfolding declared_at
-declared_starts = then_begun type_starts (λ t. keeps (then_deep {j = 0} (name_deep Real) (λ n. done_deep (t, n))))
+declared_starts = then_begun (type_starts Real) (λ t. keeps (then_deep {j = 0} (name_deep Real) (λ n. done_deep (t, n))))
 
-declaration_starts : {e h : Parser ExprTree} → Deeper 0 e h → Begun types_seen (declaration_at h)
+declaration_starts : {e h : Parser ExprTree} → Deeper 0 e h → Begun (types_begin Real) (declaration_at h)
 unfolding declaration_at
 declaration_starts he = here_begun declared_starts (λ p d. keeps (then_deep (optional_value_deep he) (λ v. then_deep (mark_deep Real punctuators.Semicolon) (λ m. done_deep (tree.declaration p d.0 d.1 v m)))))
 
@@ -134,26 +80,12 @@ not_false : (v : Bool) → (v ≡ false → true ≡ false) → v ≡ true
 not_false true h = refl
 not_false false h = sym (h refl)
 
-no_types : (t : Token) (ts : List Token) → types_seen (t ∷ ts) ≡ false → (is_type_word Real t ≡ false) × (is_name Real t ≡ false)
-unfolding is_type_word is_width
-no_types t ts h =
-    let a = or_parts (is_word Real keywords.Bool t) _ h in
-    let b = or_parts (is_word Real keywords.Void t) _ a.1 in
-    let c = or_parts (is_word Real keywords.Struct t) _ b.1 in
-    let d = or_parts (is_name Real t) _ c.1 in
-    let e = or_parts (is_sign Real t) _ d.1 in
-    let f = or_parts (is_word Real keywords.Char t) _ e.1 in
-    let g = or_parts (is_word Real keywords.Short t) _ f.1 in
-    let i = or_parts (is_word Real keywords.Long t) _ g.1 in
-    (rw (e.0, f.0, g.0, i.0, i.1, a.0, b.0, c.0) refl, d.0)
-
 undeclared : (ts : List Token) → head_has (is_type_word Real) ts ≡ false → head_has (is_name Real) ts ≡ false → sees_declaration ts ≡ false
 unfolding sees_declaration
 undeclared ts h k = rw (h, k) refl
 
-declared_type : (ts : List Token) → sees_declaration ts ≡ true → types_seen ts ≡ true
-declared_type [] e = let none : sees_declaration [] ≡ false = undeclared [] refl refl in absurd cc
-declared_type (t ∷ ts) e = not_false (types_seen (t ∷ ts)) (λ h. let p = no_types t ts h in sym e ∙ undeclared (t ∷ ts) (p.0) (p.1))
+declared_type : (ts : List Token) → sees_declaration ts ≡ true → types_begin Real ts ≡ true
+declared_type ts e = not_false (types_begin Real ts) (λ h. let p = or_parts (head_has (is_type_word Real) ts) _ h in sym e ∙ undeclared ts (p.0) (p.1))
 
 nameless : (ts : List Token) → sees_primary ts ≡ false → head_has (is_name Real) ts ≡ false
 unfolding sees_primary
@@ -176,7 +108,7 @@ unfolding sees_declaration
 typeless ts h = (or_parts (head_has (is_type_word Real) ts) _ h).0
 
 other_by : {e h f k : Parser ExprTree} → Deeper 0 e h → Deeper 0 f k → Begun sees_primary k → (ts : List Token) (w : Bool) → sees_declaration ts ≡ w → BegunAt (others_seen ts) (length ts) (if w then declaration_at h ts else simple_statement_at h k ts)
-other_by {h = h} he hf hk ts true e = begun_as (types_seen ts) (others_seen ts) (length ts) (declaration_at h ts) (declared_type ts e) (declared_other ts e) ((declaration_starts he).run ts)
+other_by {h = h} he hf hk ts true e = begun_as (types_begin Real ts) (others_seen ts) (length ts) (declaration_at h ts) (declared_type ts e) (declared_other ts e) ((declaration_starts he).run ts)
 other_by he hf hk ts false e = rw (typeless ts e) ((simple_statement_starts he hf hk).run ts)
 
 other_starts : {e h f k : Parser ExprTree} → Deeper 0 e h → Deeper 0 f k → Begun sees_primary k → Begun others_seen (λ ts. if sees_declaration ts then declaration_at h ts else simple_statement_at h k ts)

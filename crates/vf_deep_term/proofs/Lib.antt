@@ -1,0 +1,5 @@
+pub mod Pieces
+pub mod Sorts
+pub mod Terms
+pub mod Starts
+pub mod Whole
