@@ -1,7 +1,7 @@
 use crate::part::{GhostPart, GhostTree, parse_ghost};
 use std::alloc::Global;
 use vf_base::Place;
-use vf_lexer::{TokenList, lex};
+use vf_lexer::{Token, TokenList, lex};
 use vf_parse_c::fault::ParseFault;
 
 /// The place behind the texts here.
@@ -30,18 +30,30 @@ fn kind_of(tree: &GhostTree) -> GhostPart {
     }
 }
 
-/// The index behind the part of a kind that begins at an index.
-fn next(alloc: Global, text: &[u8], at: usize, kind: GhostPart) -> Result<usize, ParseFault> {
-    let read = tokens(alloc, text)?;
-    if at > read.len() {
-        return Err(ParseFault::Memory);
-    }
-    let (tree, next) = parse_ghost(alloc, read.as_slice(), at, kind, END)?;
-    if kind_of(&tree) == kind {
-        Ok(next)
+/// The index behind a part, where it is of a kind.
+fn index_of(part: &(GhostTree, usize), kind: GhostPart) -> Result<usize, ParseFault> {
+    if kind_of(&part.0) == kind {
+        Ok(part.1)
     } else {
         Err(ParseFault::Memory)
     }
+}
+
+/// The index behind the part of a kind that begins at an index of these tokens.
+fn behind(alloc: Global, read: &[Token], at: usize, kind: GhostPart) -> Result<usize, ParseFault> {
+    if at > read.len() {
+        return Err(ParseFault::Memory);
+    }
+    match parse_ghost(alloc, read, at, kind, END) {
+        Ok(part) => index_of(&part, kind),
+        Err(fault) => Err(fault),
+    }
+}
+
+/// The same of a text.
+fn next(alloc: Global, text: &[u8], at: usize, kind: GhostPart) -> Result<usize, ParseFault> {
+    let read = tokens(alloc, text)?;
+    behind(alloc, read.as_slice(), at, kind)
 }
 
 /// Parts: the text, the index of the first token, the kind, and the index behind it.
