@@ -1,13 +1,15 @@
 //! Trials of the machine on small programs: what no single crate of it shows.
 //!
 //! Mutexes and threads are misused and wait for one another, numbers of blocks are denied and given
-//! again, and runs go up to each of the machine's limits.
+//! again, runs go up to each of the machine's limits, and end otherwise than by a return.
 #![tactic(auto)]
 
 #[cfg(test)]
 mod limits;
 #[cfg(test)]
 mod memory;
+#[cfg(test)]
+mod outcomes;
 #[cfg(test)]
 mod programs;
 #[cfg(test)]

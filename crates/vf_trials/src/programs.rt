@@ -34,6 +34,10 @@ pub const RELEASE: Name = Name { number: 8 };
 
 pub const DISPOSE: Name = Name { number: 9 };
 
+pub const ABORT: Name = Name { number: 10 };
+
+pub const PUTCHAR: Name = Name { number: 11 };
+
 /// The event of a thread with a grant.
 pub fn event(thread: u32, grant: u32) -> Event {
     Event { thread, grant }
@@ -122,6 +126,8 @@ fn names(alloc: Global) -> Result<Sequence<Text>, Memory> {
         "<threading.h>#mutex_acquire",
         "<threading.h>#mutex_release",
         "<threading.h>#mutex_dispose",
+        "<stdlib.h>#abort",
+        "<stdio.h>#putchar",
     ] {
         names.push(Text::from_bytes(alloc, name.as_bytes())?)?;
     }
