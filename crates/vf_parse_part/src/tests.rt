@@ -72,7 +72,7 @@ fn parts(rt: HostRuntime) {
             "; predicate p(int x) = x == 0; lemma",
             1,
             GhostPart::Item,
-            13,
+            12,
         ),
         ("{ assert true; } close", 0, GhostPart::Command, 5),
         ("{ assert true; } close p();", 5, GhostPart::Command, 10),
