@@ -1,0 +1,4 @@
+pub mod Never
+pub mod Shares
+pub mod Patterns
+pub mod Whole
