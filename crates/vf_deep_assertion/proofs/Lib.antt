@@ -1,0 +1,4 @@
+pub mod Heads
+pub mod Parts
+pub mod Starts
+pub mod Whole
