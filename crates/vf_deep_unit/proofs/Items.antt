@@ -30,10 +30,9 @@ use Rattle.vf_parse_item.specs.Parsers.{allowed_at, typed_at, field_at, field_li
 use Rattle.vf_parse_c.specs.Units.{is_any, items_by, unit_by, unit_at}
 use Rattle.vf_deep_expression.proofs.Deeper.{DeeperAt, Deeper, then_deep, done_deep, mark_deep, word_deep, name_deep, choice_deep, head_deep, items_deep}
 use Rattle.vf_deep_expression.proofs.Types.{ctype_deep}
-use Rattle.vf_deep_expression.proofs.Answers.{Rises}
 use Rattle.vf_deep_statement.proofs.Simples.{declared_deep}
 use Rattle.vf_deep_statement.proofs.Statements.{owed_deep}
-use Rattle.vf_deep_statement.proofs.Whole.{bodies_rise}
+use Rattle.vf_deep_statement.proofs.Whole.{RisesAbove, bodies_rise}
 
 allowed_deep : {A : Type 0} {j : ℕ} {p q : Parser A} (g : Grammar) (begins : Token → Bool) → Deeper j p q → Deeper j (allowed_at g begins p) (allowed_at g begins q)
 allowed_deep g begins h = choice_deep (λ ts. is_whole g && head_has begins ts) (then_deep h (λ x. done_deep (Some x))) (done_deep None)
@@ -141,16 +140,16 @@ unit_deep : {j : ℕ} {p q : Parser Item} → Deeper j p q → Deeper j (unit_by
 unfolding unit_by items_by
 unit_deep h = then_deep (items_deep is_any h []) (λ xs. end_deep xs)
 
--- the parsers of annotations go past what was too deep, where more may nest; claims are read at no depth
-pub record RisingAnnotations (c : ℕ → Parser GhostCommandTree) (i : ℕ → Parser Invariant) (k : ℕ → Parser Contract) (l : Parser Claim) (x : ℕ → Parser GhostItem) : Type 0 where
-  pub commands : Rises c
-  pub invariants : Rises i
-  pub contracts : Rises k
+-- the parsers of annotations go past what was too deep, where so much more may nest; claims are read at no depth
+pub record RisingAnnotations (gap : ℕ) (c : ℕ → Parser GhostCommandTree) (i : ℕ → Parser Invariant) (k : ℕ → Parser Contract) (l : Parser Claim) (x : ℕ → Parser GhostItem) : Type 0 where
+  pub commands : RisesAbove gap c
+  pub invariants : RisesAbove gap i
+  pub contracts : RisesAbove gap k
   pub claims : Deeper 1 l l
-  pub ghosts : Rises x
+  pub ghosts : RisesAbove gap x
 
-pub items_rise : (g : Grammar) (c : ℕ → Parser GhostCommandTree) (i : ℕ → Parser Invariant) (k : ℕ → Parser Contract) (l : Parser Claim) (x : ℕ → Parser GhostItem) → RisingAnnotations c i k l x → Rises (item_at g c i k l x)
-items_rise g c i k l x h d m lt = item_deep g (h.claims) (h.contracts d m lt) (bodies_rise g c i (h.commands) (h.invariants) d m lt) (h.ghosts d m lt)
+pub items_rise : (gap : ℕ) (g : Grammar) (c : ℕ → Parser GhostCommandTree) (i : ℕ → Parser Invariant) (k : ℕ → Parser Contract) (l : Parser Claim) (x : ℕ → Parser GhostItem) → RisingAnnotations gap c i k l x → RisesAbove gap (item_at g c i k l x)
+items_rise gap g c i k l x h d m lt = item_deep g (h.claims) (h.contracts d m lt) (bodies_rise gap g c i (h.commands) (h.invariants) d m lt) (h.ghosts d m lt)
 
-pub units_rise : (g : Grammar) (c : ℕ → Parser GhostCommandTree) (i : ℕ → Parser Invariant) (k : ℕ → Parser Contract) (l : Parser Claim) (x : ℕ → Parser GhostItem) → RisingAnnotations c i k l x → Rises (unit_at g c i k l x)
-units_rise g c i k l x h d m lt = unit_deep (items_rise g c i k l x h d m lt)
+pub units_rise : (gap : ℕ) (g : Grammar) (c : ℕ → Parser GhostCommandTree) (i : ℕ → Parser Invariant) (k : ℕ → Parser Contract) (l : Parser Claim) (x : ℕ → Parser GhostItem) → RisingAnnotations gap c i k l x → RisesAbove gap (unit_at g c i k l x)
+units_rise gap g c i k l x h d m lt = unit_deep (items_rise gap g c i k l x h d m lt)
