@@ -1,0 +1,4 @@
+pub mod Flats
+pub mod Commands
+pub mod Starts
+pub mod Whole
