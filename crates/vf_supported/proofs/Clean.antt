@@ -13,16 +13,16 @@ use Rattle.vf_lexer.specs.declared.token.Kind.TheVariants as kinds
 use Rattle.vf_lexer.specs.declared.token.Token.{Token}
 use Rattle.vf_syntax.specs.declared.keyword.Keyword.{Keyword}
 use Rattle.vf_syntax.specs.declared.side.Side.{Side}
-use Rattle.vf_syntax.specs.declared.side.Side.TheVariants.{Ghost}
 use Rattle.vf_syntax.specs.declared.written.Name.{Name}
 use Rattle.vf_syntax.specs.Keywords.{spelling, is_spelled, is_keyword}
-use Rattle.vf_syntax.specs.Walks.{Walk, ◌⨾◌, nothing, never, provided, at, is_on, is_punctuator, is_word_kind, is_mark, is_word, is_name, is_wild, mark, word, identifier, number, character, wild}
+use Rattle.vf_syntax.specs.Walks.{Walk, ◌⨾◌, nothing, never, provided, at, is_punctuator, is_word_kind, is_mark, is_word, is_name, mark, word, identifier, number, character}
 use Rattle.vf_syntax.specs.Written.{name}
 use Rattle.vf_syntax.specs.Lists.{optional, each, separated, behind_commas}
 use Rattle.vf_parse_c.specs.Units.{real_tokens}
 use Rattle.vf_parse_c.specs.Unsupported.{unsupported_words, is_unsupported_mark, is_unsupported_kind, is_unsupported, first_unsupported}
 use Rattle.vf_full_expression.proofs.Same.{some_same, no_true, both, text_same, mark_same, keyword_is}
-use Rattle.vf_full_expression.proofs.Fronts.{took, gone, at_stays, mark_took, word_took, identifier_took, number_took, character_took, kind_of_number, kind_of_character}
+use Rattle.vf_full_expression.proofs.Fronts.{gone, at_stays, mark_took, word_took, identifier_took, number_took, character_took, kind_of_number, kind_of_character}
+use Rattle.vf_supported.proofs.Unseen.{Unseen}
 
 -- no token that a part takes is refused by name
 pub record Clean (f : Walk) : Type 0 where
@@ -60,11 +60,6 @@ kind_passes : (t : Token) (k : Kind) (x : List ℕ) → t.kind ≡ k → t.text 
 unfolding is_unsupported
 kind_passes t k x one two h = and_right (not t.is_ghost) _ ((λ i. is_unsupported_kind (one i) (two i)) ∙ h)
 
--- a token of ghost text
-ghost_passes : (t : Token) → is_on Ghost t ≡ true → is_unsupported t ≡ false
-unfolding is_unsupported
-ghost_passes t h = λ i. not (h i) && is_unsupported_kind t.kind t.text
-
 kind_of_mark : (p : Punctuator) (k : Kind) → is_punctuator p k ≡ true → k ≡ kinds.Punctuator p
 kind_of_mark p (kinds.Punctuator q) h = ap kinds.Punctuator (mark_same q p h)
 kind_of_mark p k h = no_true h
@@ -77,17 +72,9 @@ pub mark_clean : (s : Side) (m : Punctuator) → is_unsupported_mark m ≡ false
 unfolding is_mark
 mark_clean s m h = record { clean = λ ts rest e. let t = mark_took s m ts rest e in passed t.token ts rest t.parts (kind_passes t.token (kinds.Punctuator m) t.token.text (kind_of_mark m t.token.kind (both _ _ t.passes).1) refl h) }
 
-pub ghost_mark : (m : Punctuator) → Clean (mark Ghost m)
-unfolding is_mark
-ghost_mark m = record { clean = λ ts rest e. let t = mark_took Ghost m ts rest e in passed t.token ts rest t.parts (ghost_passes t.token (both _ _ t.passes).0) }
-
 pub word_clean : (s : Side) (k : Keyword) → list_any (is_spelled (spelling k)) unsupported_words ≡ false → Clean (word s k)
 unfolding is_word
 word_clean s k h = record { clean = λ ts rest e. let t = word_took s k ts rest e in let b = both _ _ t.passes in let c = both _ _ b.0 in passed t.token ts rest t.parts (kind_passes t.token kinds.Name (spelling k) (kind_of_word t.token.kind c.1) (text_same t.token.text (spelling k) b.1) h) }
-
-pub ghost_word : (k : Keyword) → Clean (word Ghost k)
-unfolding is_word
-ghost_word k = record { clean = λ ts rest e. let t = word_took Ghost k ts rest e in passed t.token ts rest t.parts (ghost_passes t.token (both _ _ (both _ _ t.passes).0).0) }
 
 -- a name is no keyword
 no_keyword : (x : List ℕ) (k : Keyword) → not (is_keyword x) ≡ true → is_spelled x k ≡ false
@@ -106,10 +93,6 @@ number_clean s n ty = record { clean = λ ts rest e. let t = number_took s n ty 
 
 pub character_clean : (n : ℕ) → Clean (character n)
 character_clean n = record { clean = λ ts rest e. let t = character_took n ts rest e in passed t.token ts rest t.parts (kind_passes t.token (kinds.Character n) t.token.text (kind_of_character n t.token.kind (both _ _ t.passes).1) refl refl) }
-
-pub wild_clean : Clean wild
-unfolding wild is_wild
-wild_clean = record { clean = λ ts rest e. let t = took is_wild ts rest e in passed t.token ts rest t.parts (ghost_passes t.token (both _ _ t.passes).0) }
 
 pub name_clean : (s : Side) (n : Name) → Clean (name s n)
 unfolding name
@@ -141,3 +124,7 @@ real_by false t ts e h = rw e (λ i. if is_unsupported_kind t.kind t.text then S
 pub real_supported : (ts : List Token) → first_unsupported ts ≡ first_unsupported (real_tokens ts)
 real_supported [] = refl
 real_supported (t ∷ ts) = real_by t.is_ghost t ts refl (real_supported ts)
+
+-- no token of ghost text is refused by name
+pub unseen_clean : {f : Walk} → Unseen f → Clean f
+unseen_clean a = record { clean = λ ts rest e. real_supported ts ∙ ap first_unsupported (a.unseen ts rest e) ∙ sym (real_supported rest) }

@@ -1,6 +1,7 @@
+pub mod Unseen
 pub mod Clean
 pub mod RealClean
-pub mod GhostClean
+pub mod GhostUnseen
 pub mod StatementsClean
-pub mod GhostItemsClean
+pub mod GhostItemsUnseen
 pub mod UnitsClean

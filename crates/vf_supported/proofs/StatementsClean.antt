@@ -6,6 +6,7 @@ use Rattle.vf_syntax.specs.declared.operator.AssignmentOperator.{AssignmentOpera
 use Rattle.vf_syntax.specs.declared.operator.AssignmentOperator.TheVariants as assignments
 use Rattle.vf_syntax.specs.declared.operator.StepOperator.{StepOperator}
 use Rattle.vf_syntax.specs.declared.operator.StepOperator.TheVariants as steps
+use Rattle.vf_syntax.specs.declared.contract.Invariant.{Invariant}
 use Rattle.vf_syntax.specs.declared.simple.Simple.{Simple}
 use Rattle.vf_syntax.specs.declared.simple.Simple.TheVariants as simples
 use Rattle.vf_syntax.specs.declared.simple.First.{First}
@@ -18,9 +19,9 @@ use Rattle.vf_syntax.specs.Written.{assignment_mark, step_mark}
 use Rattle.vf_syntax.specs.Expressions.{expr}
 use Rattle.vf_syntax.specs.Statements.{simple, first, initializer, invariant_walk, owed, stmt, stmts}
 use Rattle.vf_parse_c.specs.Unsupported.{is_unsupported_mark}
-use Rattle.vf_supported.proofs.Clean.{Clean, clean_then, nothing_clean, never_clean, provided_clean, at_clean, mark_clean, word_clean, name_clean, optional_clean}
+use Rattle.vf_supported.proofs.Clean.{Clean, clean_then, nothing_clean, never_clean, provided_clean, at_clean, mark_clean, word_clean, name_clean, optional_clean, unseen_clean}
 use Rattle.vf_supported.proofs.RealClean.{ctype_clean, expr_clean}
-use Rattle.vf_supported.proofs.GhostClean.{command_clean, invariant_clean}
+use Rattle.vf_supported.proofs.GhostUnseen.{command_unseen, invariant_unseen}
 
 assignment_supported : (o : AssignmentOperator) → is_unsupported_mark (assignment_mark o) ≡ false
 assignment_supported assignments.Becomes = refl
@@ -53,6 +54,9 @@ owed_clean grammars.Whole w h None = never_clean
 owed_clean grammars.Plain w h None = nothing_clean
 owed_clean grammars.Plain w h (Some x) = never_clean
 
+invariant_clean : (x : Invariant) → Clean (invariant_walk x)
+invariant_clean x = unseen_clean (invariant_unseen x)
+
 mutual
   pub stmt_clean : (g : Grammar) (x : StmtTree) → Clean (stmt g x)
   stmt_clean g (tree.declaration p t n e last) = clean_then (at_clean p) (clean_then (ctype_clean _ t) (clean_then (name_clean _ n) (clean_then (optional_clean initializer initializer_clean e) (clean_then (at_clean last) (mark_clean _ _ refl)))))
@@ -64,7 +68,7 @@ mutual
   stmt_clean g (tree.return_ p e last) = clean_then (at_clean p) (clean_then (word_clean _ _ refl) (clean_then (optional_clean expr (λ (x : ExprTree). (expr_clean x)) e) (clean_then (at_clean last) (mark_clean _ _ refl))))
   stmt_clean g (tree.block p xs last) = clean_then (at_clean p) (clean_then (mark_clean _ _ refl) (clean_then (stmts_clean g xs) (clean_then (at_clean last) (mark_clean _ _ refl))))
   stmt_clean g (tree.empty_ p) = clean_then (at_clean p) (mark_clean _ _ refl)
-  stmt_clean grammars.Whole (tree.ghost p c) = clean_then (at_clean p) (command_clean c)
+  stmt_clean grammars.Whole (tree.ghost p c) = clean_then (at_clean p) (unseen_clean (command_unseen c))
   stmt_clean grammars.Plain (tree.ghost p c) = never_clean
 
   pub stmts_clean : (g : Grammar) (xs : StmtTrees) → Clean (stmts g xs)

@@ -1,6 +1,8 @@
 -- Items and units that are spelled take no token that is refused by name.
 use Rattle.std.proofs.Common.{List, Option, Some, None, refl}
 use Rattle.vf_syntax.specs.StmtTree.{stmt_list}
+use Rattle.vf_syntax.specs.declared.contract.Claim.{Claim}
+use Rattle.vf_syntax.specs.declared.contract.Contract.{Contract}
 use Rattle.vf_syntax.specs.declared.item.Body.{Body}
 use Rattle.vf_syntax.specs.declared.item.Item.TheVariants as items
 use Rattle.vf_syntax.specs.declared.item.Item.{Item}
@@ -18,11 +20,11 @@ use Rattle.vf_syntax.specs.Walks.{Walk}
 use Rattle.vf_syntax.specs.Lists.{each}
 use Rattle.vf_syntax.specs.Statements.{allowed, claim, contract}
 use Rattle.vf_syntax.specs.Units.{typed, field, result_type, parameters_walk, signature, body, item, unit}
-use Rattle.vf_supported.proofs.Clean.{Clean, clean_then, nothing_clean, never_clean, at_clean, mark_clean, word_clean, name_clean, each_clean, separated_clean}
+use Rattle.vf_supported.proofs.Clean.{Clean, clean_then, nothing_clean, never_clean, at_clean, mark_clean, word_clean, name_clean, each_clean, separated_clean, unseen_clean}
 use Rattle.vf_supported.proofs.RealClean.{ctype_clean}
-use Rattle.vf_supported.proofs.GhostClean.{claim_clean, contract_clean}
+use Rattle.vf_supported.proofs.GhostUnseen.{claim_unseen, contract_unseen}
 use Rattle.vf_supported.proofs.StatementsClean.{owed_clean, stmts_clean}
-use Rattle.vf_supported.proofs.GhostItemsClean.{ghost_item_clean}
+use Rattle.vf_supported.proofs.GhostItemsUnseen.{ghost_item_unseen}
 
 typed_clean : (x : Typed) → Clean (typed x)
 unfolding typed
@@ -49,6 +51,12 @@ pub signature_clean : (x : Signature) → Clean (signature x)
 unfolding signature
 signature_clean x = clean_then (result_clean x.«result») (clean_then (name_clean _ x.name) (parameters_clean x.parameters))
 
+claim_clean : (x : Claim) → Clean (claim x)
+claim_clean x = unseen_clean (claim_unseen x)
+
+contract_clean : (x : Contract) → Clean (contract x)
+contract_clean x = unseen_clean (contract_unseen x)
+
 allowed_clean : {A : Type 0} (g : Grammar) (w : A → Walk) → ((x : A) → Clean (w x)) → (x : Option A) → Clean (allowed g w x)
 allowed_clean grammars.Whole w h (Some x) = h x
 allowed_clean grammars.Whole w h None = nothing_clean
@@ -66,7 +74,7 @@ item_clean g (items.Struct p tag fs) = clean_then (at_clean p) (clean_then (word
 item_clean g (items.FunctionType p s c) = clean_then (at_clean p) (clean_then (word_clean _ _ refl) (clean_then (signature_clean s) (clean_then (mark_clean _ _ refl) (owed_clean g contract contract_clean c))))
 item_clean g (items.Prototype s q c) = clean_then (signature_clean s) (clean_then (mark_clean _ _ refl) (clean_then (allowed_clean g claim claim_clean q) (owed_clean g contract contract_clean c)))
 item_clean g (items.Function s q c b) = clean_then (signature_clean s) (clean_then (allowed_clean g claim claim_clean q) (clean_then (allowed_clean g contract contract_clean c) (body_clean g b)))
-item_clean grammars.Whole (items.Ghost x) = ghost_item_clean x
+item_clean grammars.Whole (items.Ghost x) = unseen_clean (ghost_item_unseen x)
 item_clean grammars.Plain (items.Ghost x) = never_clean
 
 pub unit_clean : (g : Grammar) (u : FileUnit) → Clean (unit g u)
