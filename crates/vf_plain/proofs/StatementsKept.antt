@@ -57,7 +57,7 @@ no_command (tree.block p xs last) = refl
 no_command (tree.empty_ p) = refl
 no_command (tree.ghost p c) = refl
 
--- an `else` belongs where it did
+-- a statement ends in an `if` without `else` as before
 open_stays : (x : StmtTree) → is_open (stripped_stmt x) ≡ is_open x
 open_stays (tree.declaration p t n e last) = refl
 open_stays (tree.simple p s last) = refl
@@ -82,7 +82,7 @@ branch x h = rw (no_command x) (by_test (is_command x) h)
     by_test true k = record { keeps_on = λ ts rest e. absurd cc; fronts = λ ts rest e. absurd cc }
     by_test false k = provided_firm true (k refl)
 
--- the first branch of two is kept: it takes no `else` in front of which it stands
+-- the first branch of two is kept, with what stands behind it: it is no ghost command and ends in no `if` without `else`
 first_branch : (x : StmtTree) {f g : Walk} → Kept x → Keeps f g
     → Firm (provided (not (is_command x)) ⨾ provided (not (is_open x)) ⨾ stmt Whole x ⨾ f) (provided (not (is_command (stripped_stmt x))) ⨾ provided (not (is_open (stripped_stmt x))) ⨾ stmt Plain (stripped_stmt x) ⨾ g)
 first_branch x {f = f} {g = g} h behind = rw (no_command x, open_stays x) (by_test (is_command x) h)

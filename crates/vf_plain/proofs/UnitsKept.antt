@@ -53,7 +53,7 @@ allowed_keeps : {A : Type 0} (w : A → Walk) → ((x : A) → Unseen (w x)) →
 allowed_keeps w h (Some x) = unseen_kept (h x)
 allowed_keeps w h None = nothing_keeps
 
--- a list of statements is left with the same ones in both of its forms
+-- the statements of a body that are left are the same in both forms of the list
 pub parts_same : (xs : List StmtTree) → stmt_list (filter_map stripped_part xs) ≡ stripped_stmts (stmt_list xs)
 parts_same [] = refl
 parts_same (x ∷ xs) = by_test (is_command x) (parts_same xs)
