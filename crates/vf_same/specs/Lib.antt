@@ -1,0 +1,14 @@
+pub mod UnplacedWritten
+pub mod UnplacedSort
+pub mod UnplacedExpr
+pub mod UnplacedGhostExpr
+pub mod UnplacedPattern
+pub mod UnplacedAssertion
+pub mod UnplacedContract
+pub mod UnplacedSimple
+pub mod UnplacedGhostCommand
+pub mod UnplacedStmt
+pub mod UnplacedSignature
+pub mod UnplacedGhostItem
+pub mod UnplacedItem
+pub mod UnplacedUnit
