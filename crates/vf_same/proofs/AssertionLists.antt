@@ -1,6 +1,6 @@
 -- Written by tools/gen_same.py: change it there.
 -- Lists of assertions: by their nodes, and without their places.
-use Rattle.std.proofs.Common.{◌≡◌, ℕ, zero, suc, ◌+◌, ◌<◌, List, [], ◌∷◌, map, Option, Some, slice_get, refl, sym, ap, arith}
+use Rattle.std.proofs.Common.{◌≡◌, ℕ, zero, suc, ◌<◌, List, [], ◌∷◌, map, Some, slice_get, refl, sym, arith}
 use Rattle.vf_syntax.specs.AssertionTree.{PartTree, part_list, no_part, more_part, part_nodes, part_nodes_all, AssertionCaseTree, assertion_case_list, no_assertion_case, more_assertion_case, assertion_case_nodes, assertion_case_nodes_all}
 use Rattle.vf_same.specs.UnplacedAssertion.{unplaced_part, unplaced_part_all, unplaced_assertion_case, unplaced_assertion_case_all}
 

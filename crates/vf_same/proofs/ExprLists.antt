@@ -1,6 +1,6 @@
 -- Written by tools/gen_same.py: change it there.
 -- Lists of expressions of real text: by their nodes, and without their places.
-use Rattle.std.proofs.Common.{◌≡◌, ℕ, zero, suc, ◌+◌, ◌<◌, List, [], ◌∷◌, map, Option, Some, slice_get, refl, sym, ap, arith}
+use Rattle.std.proofs.Common.{◌≡◌, ℕ, zero, suc, ◌<◌, List, [], ◌∷◌, map, Some, slice_get, refl, sym, arith}
 use Rattle.vf_syntax.specs.ExprTree.{ExprTree, expr_list, no_expr, more_expr, expr_nodes, expr_nodes_all, LinkTree, link_list, no_link, more_link, link_nodes, link_nodes_all, PostfixTree, postfix_list, no_postfix, more_postfix, postfix_nodes, postfix_nodes_all}
 use Rattle.vf_same.specs.UnplacedExpr.{unplaced_expr, unplaced_expr_all, unplaced_link, unplaced_link_all, unplaced_postfix, unplaced_postfix_all}
 

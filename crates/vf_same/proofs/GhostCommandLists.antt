@@ -1,6 +1,6 @@
 -- Written by tools/gen_same.py: change it there.
 -- Lists of ghost commands: by their nodes, and without their places.
-use Rattle.std.proofs.Common.{◌≡◌, ℕ, zero, suc, ◌+◌, ◌<◌, List, [], ◌∷◌, map, Option, Some, slice_get, refl, sym, ap, arith}
+use Rattle.std.proofs.Common.{◌≡◌, ℕ, zero, suc, ◌<◌, List, [], ◌∷◌, map, Some, slice_get, refl, sym, arith}
 use Rattle.vf_syntax.specs.GhostCommandTree.{GhostCommandTree, ghost_command_list, no_ghost_command, more_ghost_command, ghost_command_nodes, ghost_command_nodes_all, CommandCaseTree, command_case_list, no_command_case, more_command_case, command_case_nodes, command_case_nodes_all}
 use Rattle.vf_same.specs.UnplacedGhostCommand.{unplaced_ghost_command, unplaced_ghost_command_all, unplaced_command_case, unplaced_command_case_all}
 

@@ -1,6 +1,6 @@
 -- Written by tools/gen_same.py: change it there.
 -- Lists of expressions of ghost text: by their nodes, and without their places.
-use Rattle.std.proofs.Common.{◌≡◌, ℕ, zero, suc, ◌+◌, ◌<◌, List, [], ◌∷◌, map, Option, Some, slice_get, refl, sym, ap, arith}
+use Rattle.std.proofs.Common.{◌≡◌, ℕ, zero, suc, ◌<◌, List, [], ◌∷◌, map, Some, slice_get, refl, sym, arith}
 use Rattle.vf_syntax.specs.GhostExprTree.{GhostExprTree, ghost_expr_list, no_ghost_expr, more_ghost_expr, ghost_expr_nodes, ghost_expr_nodes_all, GhostLinkTree, ghost_link_list, no_ghost_link, more_ghost_link, ghost_link_nodes, ghost_link_nodes_all}
 use Rattle.vf_same.specs.UnplacedGhostExpr.{unplaced_ghost_expr, unplaced_ghost_expr_all, unplaced_ghost_link, unplaced_ghost_link_all}
 

@@ -1,6 +1,6 @@
 -- Written by tools/gen_same.py: change it there.
 -- Lists of sorts: by their nodes, and without their places.
-use Rattle.std.proofs.Common.{◌≡◌, ℕ, zero, suc, ◌+◌, ◌<◌, List, [], ◌∷◌, map, Option, Some, slice_get, refl, sym, ap, arith}
+use Rattle.std.proofs.Common.{◌≡◌, ℕ, zero, suc, ◌<◌, List, [], ◌∷◌, map, Some, slice_get, refl, sym, arith}
 use Rattle.vf_syntax.specs.SortTree.{SortTree, sort_list, no_sort, more_sort, sort_nodes, sort_nodes_all}
 use Rattle.vf_same.specs.UnplacedSort.{unplaced_sort, unplaced_sort_all}
 

@@ -1,6 +1,6 @@
 -- Written by tools/gen_same.py: change it there.
 -- Lists of statements: by their nodes, and without their places.
-use Rattle.std.proofs.Common.{◌≡◌, ℕ, zero, suc, ◌+◌, ◌<◌, List, [], ◌∷◌, map, Option, Some, slice_get, refl, sym, ap, arith}
+use Rattle.std.proofs.Common.{◌≡◌, ℕ, zero, suc, ◌<◌, List, [], ◌∷◌, map, Some, slice_get, refl, sym, arith}
 use Rattle.vf_syntax.specs.StmtTree.{StmtTree, stmt_list, no_stmt, more_stmt, stmt_nodes, stmt_nodes_all}
 use Rattle.vf_same.specs.UnplacedStmt.{unplaced_stmt, unplaced_stmt_all}
 

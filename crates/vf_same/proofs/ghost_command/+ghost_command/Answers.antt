@@ -1,5 +1,5 @@
 -- Written by tools/gen_same.py: change it there.
-use Rattle.std.proofs.Common.{rules, ◌≡◌, ◌+◌, sym}
+use Rattle.std.proofs.Common.{rules, sym}
 use Rattle.vf_same.specs.UnplacedGhostCommand.{unplaced_ghost_command, unplaced_command_case}
 use Rattle.vf_same.proofs.Lists.{fronts_grow}
 use Rattle.vf_same.proofs.ghost_command.+ghost_command.Goals as goal

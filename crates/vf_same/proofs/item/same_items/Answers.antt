@@ -1,5 +1,5 @@
 -- Written by tools/gen_same.py: change it there.
-use Rattle.std.proofs.Common.{rules, ◌≡◌, ◌+◌, sym}
+use Rattle.std.proofs.Common.{rules, sym}
 use Rattle.vf_same.specs.UnplacedItem.{unplaced_item}
 use Rattle.vf_same.proofs.Lists.{fronts_grow}
 use Rattle.vf_same.proofs.item.same_items.Goals as goal

@@ -1,5 +1,5 @@
 -- Written by tools/gen_same.py: change it there.
-use Rattle.std.proofs.Common.{rules, ◌≡◌, ◌+◌, sym}
+use Rattle.std.proofs.Common.{rules, sym}
 use Rattle.vf_same.specs.UnplacedSort.{unplaced_sort}
 use Rattle.vf_same.proofs.Lists.{fronts_grow}
 use Rattle.vf_same.proofs.sort.+sort.Goals as goal
