@@ -16,5 +16,7 @@ pub mod signature;
 pub mod simple;
 pub mod sort;
 pub mod stmt;
+#[cfg(test)]
+mod tests;
 pub mod unit;
 pub mod written;
