@@ -1,7 +1,9 @@
 -- Operations on sums.
 use Rattle.std.proofs.Common.{◌≡◌, ℕ, zero, suc, ◌<◌, ◌≤◌, ◌+◌, List, ◌∷◌, [], ◌++◌, drop, length, Bool, true, false, cond, Option, Some, None, refl, sym, ◌∙◌, ap, ap₂, subst, arith}
-use Rattle.std.specs.Prelude.{ℤ, pos, ◌*ℤ◌, neg_ℤ, ◌&&◌, ◌^◌, int_le, FitsSigned}
+use Rattle.std.specs.Prelude.{ℤ, pos, ◌*ℤ◌, neg_ℤ, ◌&&◌, ◌^◌, int_le, FitsSigned, IfOk}
 use mir.Syntax.{w128}
+use Rattle.std.specs.declared.result.Result.{Result}
+use Rattle.std.specs.declared.result.Result.TheVariants.{Ok, Err}
 use Rattle.std.proofs.Math.ListN.{get_or}
 use Rattle.std.proofs.lemmas.List.{append_assoc, append-nil}
 use Rattle.std.specs.Ordering.{int_eq}
@@ -154,3 +156,8 @@ apart op a b (Some f) h = ap (λ c. cond c (term_of f) (operation op a b)) h
 
 pub stays_apart : (op : ArithmeticOperator) (a b : Term) → StaysApart (combined op (form_of a) (form_of b)) → calculated op a b ≡ operation op a b
 stays_apart op a b h = apart op a b (combined op (form_of a) (form_of b)) h
+
+-- a term that is a term in normal form is in normal form
+pub ok_normal : {E : Type 0} (r : Result Term E) (t : Term) → IfOk r (λ u. u ≡ t) → IsNormal t → IfOk r IsNormal
+ok_normal (Ok u) t e n = subst IsNormal (sym e) n
+ok_normal (Err x) t e n = tt

@@ -4,11 +4,13 @@
 //! form as those of `vf_normal`.
 #![tactic(auto)]
 
+mod calculation;
 mod fraction;
 mod head;
 mod linear;
 mod term;
 
+pub use calculation::calculated;
 pub use fraction::Dyadic;
 pub use head::{Head, Kind, Name};
 pub use linear::{Linear, Weighted, form, times_each, together};
