@@ -16,11 +16,11 @@ use std::alloc::Global;
 use vf_base::{Files, Memory, Place, Refusal, Rule, Shown};
 use vf_expand::{UnitTokens, expand};
 use vf_first::first_form;
-use vf_parse::parse::parse;
 use vf_parse_c::fault::ParseFault;
 use vf_preproc::ExpandFault;
 use vf_snapshot::Snapshot;
 use vf_syntax::item::Unit;
+use vf_unit::whole::parse;
 use vf_tree::Core;
 
 /// What came of reading a file.
@@ -82,16 +82,11 @@ fn refused(fault: ParseFault) -> Result<Reading, Memory>
 }
 
 /// The core of a unit, or its first refusal.
-fn read_unit(alloc: Global, path: &str, unit: UnitTokens) -> Result<Reading, Memory>
-    ensures { IfOk result (λ r. result_of r ≡ core_of path.now (text_of unit)) }
+fn read_unit(alloc: Global, path: &str, unit: &UnitTokens) -> Result<Reading, Memory>
+    ensures { IfOk result (λ r. result_of r ≡ core_of path.now (text_of unit.now)) }
 {
-    let UnitTokens {
-        tokens,
-        headers,
-        end,
-    } = unit;
-    match parse(alloc, tokens.as_slice(), headers, end) {
-        Ok(unit) => read_items(alloc, path, end.file, &unit),
+    match parse(alloc, unit) {
+        Ok(read) => read_items(alloc, path, unit.end.file, &read),
         Err(fault) => refused(fault),
     }
 }
@@ -112,7 +107,7 @@ pub fn read_file<F: Files>(
         (world snapshot.new (F.contents files.new) (F.failures files.new) (F.absences files.new) (F.put_failures files.new)) }
 {
     match expand(alloc, snapshot, files, path) {
-        Ok(unit) => match read_unit(alloc, path, unit) {
+        Ok(unit) => match read_unit(alloc, path, &unit) {
             Ok(reading) => Ok(reading),
             Err(_) => Err(Stop::Memory),
         },

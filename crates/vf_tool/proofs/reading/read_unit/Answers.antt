@@ -1,15 +1,15 @@
 -- What the parser answers is what the unit reads as.
-use Rattle.std.proofs.Common.{Ok, Err}
+use Rattle.std.proofs.Common.{Ok, Err, refl}
 use Rattle.vf_expand.specs.Wholes.{text_of}
 use Rattle.vf_tool.proofs.Parsed.{parsed_by, answers_ok, answers_err}
 use Rattle.vf_tool.proofs.reading.read_unit.Goals as goal
 
 pub returns-in-Ok : goal.returns-in-Ok
 returns-in-Ok c =
-    let items = parsed_by c.as_slice.result.now (Ok c.in-Ok.unit) (text_of c.args.unit) c.as_slice.ensures c.in-Ok.ensures.unsupported c.in-Ok.ensures.read in
-    answers_ok c.args.path.now (text_of c.args.unit) c.in-Ok.unit c.read_items.result items c.read_items.ensures
+    let items = parsed_by c.args.unit.now.tokens (Ok c.in-Ok.read) (text_of c.args.unit.now) refl c.in-Ok.ensures.unsupported c.in-Ok.ensures.read in
+    answers_ok c.args.path.now (text_of c.args.unit.now) c.in-Ok.read c.read_items.result items c.read_items.ensures
 
 pub returns : goal.returns
 returns c =
-    let items = parsed_by c.as_slice.result.now (Err c.in-Err.fault) (text_of c.args.unit) c.as_slice.ensures c.in-Err.ensures.unsupported c.in-Err.ensures.read in
-    answers_err c.args.path.now (text_of c.args.unit) c.in-Err.fault c.refused.result items c.refused.ensures
+    let items = parsed_by c.args.unit.now.tokens (Err c.in-Err.fault) (text_of c.args.unit.now) refl c.in-Err.ensures.unsupported c.in-Err.ensures.read in
+    answers_err c.args.path.now (text_of c.args.unit.now) c.in-Err.fault c.refused.result items c.refused.ensures
