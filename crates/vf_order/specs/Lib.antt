@@ -1,0 +1,5 @@
+pub mod Marks
+pub mod Order
+pub mod Walked
+pub mod Statements
+pub mod Ordered
