@@ -3,7 +3,7 @@
 
     tools/gen_copy.py              run at the top of the repository
 
-For the first two cycles of tree types in the tables of tools/gen_syntax.py it writes
+For each cycle of tree types in the tables of tools/gen_syntax.py it writes
 
 * `src/MODULE.rt`: a function that copies a tree, for each type of the cycle, and one that copies a list;
 * `proofs/MODULE/+MODULE/Invariants.antt`: why these functions end, and what their loops keep;
@@ -143,7 +143,7 @@ def tree_function(cycle, t):
     node = syntax.node(t)
     s += '    let place = source.place;\n    let node = match &source.node {\n'
     for v in t[2]:
-        names = syntax.params(v)
+        names = [f for f, _ in v[2]]
         front = f'{node}::{v[0]}'
         if not v[2]:
             s += arm(front, front, 8)
@@ -259,7 +259,7 @@ pub {b}_at : (xs : List {t[0]}Tree) (i : ℕ) (x : {t[0]}Tree) → slice_get xs 
 
 
 def main():
-    for cycle in syntax.CYCLES[:2]:
+    for cycle in syntax.CYCLES:
         syntax.write(f'{ROOT}/src/{cycle[0]}.rt', rust_file(cycle))
         syntax.write(f'{ROOT}/proofs/{cycle[0]}/+{cycle[0]}/Invariants.antt', invariants_file(cycle))
         syntax.write(f'{ROOT}/proofs/{cycle[1]}Items.antt', items_file(cycle))

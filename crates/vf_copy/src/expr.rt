@@ -17,35 +17,39 @@ pub fn copy_expression(source: &Expr, alloc: Global) -> Result<Expr, Memory>
 {
     let place = source.place;
     let node = match &source.node {
-        ExprNode::Number(a, b) => ExprNode::Number(*a, *b),
-        ExprNode::Character(a) => ExprNode::Character(*a),
+        ExprNode::Number(value, int_type) => ExprNode::Number(*value, *int_type),
+        ExprNode::Character(value) => ExprNode::Character(*value),
         ExprNode::True => ExprNode::True,
         ExprNode::False => ExprNode::False,
-        ExprNode::Name(a) => ExprNode::Name(a.copy()?),
-        ExprNode::Parenthesized(a) => {
-            ExprNode::Parenthesized(Box::new(alloc, copy_expression(a, alloc)?)?)
+        ExprNode::Name(name) => ExprNode::Name(name.copy()?),
+        ExprNode::Parenthesized(inner) => {
+            ExprNode::Parenthesized(Box::new(alloc, copy_expression(inner, alloc)?)?)
         }
-        ExprNode::Malloc(a) => ExprNode::Malloc(copy_name(a)?),
-        ExprNode::MallocInts(a, b) => {
-            ExprNode::MallocInts(Box::new(alloc, copy_expression(a, alloc)?)?, *b)
+        ExprNode::Malloc(tag) => ExprNode::Malloc(copy_name(tag)?),
+        ExprNode::MallocInts(length, star) => {
+            ExprNode::MallocInts(Box::new(alloc, copy_expression(length, alloc)?)?, *star)
         }
-        ExprNode::Postfix(a, b) => ExprNode::Postfix(
-            Box::new(alloc, copy_expression(a, alloc)?)?,
-            copy_postfixes(b, alloc)?,
+        ExprNode::Postfix(first, parts) => ExprNode::Postfix(
+            Box::new(alloc, copy_expression(first, alloc)?)?,
+            copy_postfixes(parts, alloc)?,
         ),
-        ExprNode::Unary(a, b) => ExprNode::Unary(*a, Box::new(alloc, copy_expression(b, alloc)?)?),
-        ExprNode::Cast(a, b) => {
-            ExprNode::Cast(copy_type(a)?, Box::new(alloc, copy_expression(b, alloc)?)?)
-        }
-        ExprNode::Chain(a, b, c) => ExprNode::Chain(
-            *a,
-            Box::new(alloc, copy_expression(b, alloc)?)?,
-            copy_links(c, alloc)?,
+        ExprNode::Unary(operator, operand) => ExprNode::Unary(
+            *operator,
+            Box::new(alloc, copy_expression(operand, alloc)?)?,
         ),
-        ExprNode::Conditional(a, b, c) => ExprNode::Conditional(
-            Box::new(alloc, copy_expression(a, alloc)?)?,
-            Box::new(alloc, copy_expression(b, alloc)?)?,
-            Box::new(alloc, copy_expression(c, alloc)?)?,
+        ExprNode::Cast(target, operand) => ExprNode::Cast(
+            copy_type(target)?,
+            Box::new(alloc, copy_expression(operand, alloc)?)?,
+        ),
+        ExprNode::Chain(level, first, links) => ExprNode::Chain(
+            *level,
+            Box::new(alloc, copy_expression(first, alloc)?)?,
+            copy_links(links, alloc)?,
+        ),
+        ExprNode::Conditional(test, yes, no) => ExprNode::Conditional(
+            Box::new(alloc, copy_expression(test, alloc)?)?,
+            Box::new(alloc, copy_expression(yes, alloc)?)?,
+            Box::new(alloc, copy_expression(no, alloc)?)?,
         ),
     };
     Ok(Expr { place, node })
@@ -70,9 +74,9 @@ pub fn copy_postfix(source: &Postfix, alloc: Global) -> Result<Postfix, Memory>
 {
     let place = source.place;
     let node = match &source.node {
-        PostfixNode::Field(a) => PostfixNode::Field(copy_name(a)?),
-        PostfixNode::Index(a) => PostfixNode::Index(copy_expression(a, alloc)?),
-        PostfixNode::Call(a) => PostfixNode::Call(copy_expressions(a, alloc)?),
+        PostfixNode::Field(name) => PostfixNode::Field(copy_name(name)?),
+        PostfixNode::Index(index) => PostfixNode::Index(copy_expression(index, alloc)?),
+        PostfixNode::Call(arguments) => PostfixNode::Call(copy_expressions(arguments, alloc)?),
     };
     Ok(Postfix { place, node })
 }

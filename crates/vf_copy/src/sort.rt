@@ -17,9 +17,11 @@ pub fn copy_sort(source: &Sort, alloc: Global) -> Result<Sort, Memory>
     let node = match &source.node {
         SortNode::Real => SortNode::Real,
         SortNode::Any => SortNode::Any,
-        SortNode::Type(a) => SortNode::Type(copy_type(a)?),
-        SortNode::Name(a, b) => SortNode::Name(a.copy()?, copy_sorts(b, alloc)?),
-        SortNode::Predicate(a) => SortNode::Predicate(copy_sorts(a, alloc)?),
+        SortNode::Type(written) => SortNode::Type(copy_type(written)?),
+        SortNode::Name(name, arguments) => {
+            SortNode::Name(name.copy()?, copy_sorts(arguments, alloc)?)
+        }
+        SortNode::Predicate(arguments) => SortNode::Predicate(copy_sorts(arguments, alloc)?),
     };
     Ok(Sort { place, node })
 }

@@ -2,21 +2,45 @@
 
 ghost use Rattle.std.specs.Prelude.{◌≡◌, IfOk};
 
-use vf_base::Memory;
+use std::alloc::Global;
+use vf_base::{Memory, Sequence};
 use vf_syntax::written::{CType, Name, ResultType, TypeForm};
 
-/// The same name again.
+/// The copy of a name, its place included.
 pub fn copy_name(source: &Name) -> Result<Name, Memory>
     ensures { IfOk result (λ copy. copy ≡ source.now) }
 {
-    let place = source.place;
     Ok(Name {
         text: source.text.copy()?,
-        place,
+        place: source.place,
     })
 }
 
-/// The same type again.
+/// The copy of a name that may be absent, its place included.
+pub fn copy_optional_name(source: &Option<Name>) -> Result<Option<Name>, Memory>
+    ensures { IfOk result (λ copy. copy ≡ source.now) }
+{
+    match source {
+        Some(item) => Ok(Some(copy_name(item)?)),
+        None => Ok(None),
+    }
+}
+
+/// The copy of a list of names, places included.
+#[tactic(auto, using(crate::proofs::Items::taken_with, crate::proofs::Items::taken_past))]
+pub fn copy_names(source: &Sequence<Name>, alloc: Global) -> Result<Sequence<Name>, Memory>
+    ensures { IfOk result (λ copy. copy ≡ source.now) }
+{
+    let mut copies = Sequence::new(alloc);
+    for at in 0..source.len() {
+        if let Some(item) = source.get(at) {
+            copies.push(copy_name(item)?)?;
+        }
+    }
+    Ok(copies)
+}
+
+/// The copy of a type, places included.
 pub fn copy_type(source: &CType) -> Result<CType, Memory>
     ensures { IfOk result (λ copy. copy ≡ source.now) }
 {
@@ -32,7 +56,7 @@ pub fn copy_type(source: &CType) -> Result<CType, Memory>
     Ok(CType { place, form })
 }
 
-/// The same result type again.
+/// The copy of a result type, places included.
 pub fn copy_result_type(source: &ResultType) -> Result<ResultType, Memory>
     ensures { IfOk result (λ copy. copy ≡ source.now) }
 {
