@@ -20,8 +20,8 @@ use vf_parse_c::fault::ParseFault;
 use vf_preproc::ExpandFault;
 use vf_snapshot::Snapshot;
 use vf_syntax::item::Unit;
-use vf_unit::whole::parse;
 use vf_tree::Core;
+use vf_unit::whole::parse;
 
 /// What came of reading a file.
 #[derive(Debug, Drop)]
