@@ -3,3 +3,4 @@ pub mod Codes
 pub mod Fractions
 pub mod Heads
 pub mod Linears
+pub mod Literals

@@ -8,10 +8,12 @@ mod calculation;
 mod fraction;
 mod head;
 mod linear;
+mod literal;
 mod term;
 
 pub use calculation::calculated;
 pub use fraction::Dyadic;
 pub use head::{Head, Kind, Name};
 pub use linear::{Linear, Weighted, form, times_each, together};
+pub use literal::Literal;
 pub use term::{Term, TermList};
