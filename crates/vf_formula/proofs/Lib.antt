@@ -2,3 +2,4 @@ pub mod Comparing
 pub mod Fractions
 pub mod Merging
 pub mod Calculating
+pub mod Parts

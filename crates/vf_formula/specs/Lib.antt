@@ -4,3 +4,4 @@ pub mod Fractions
 pub mod Heads
 pub mod Linears
 pub mod Literals
+pub mod Shares

@@ -9,6 +9,8 @@ mod fraction;
 mod head;
 mod linear;
 mod literal;
+mod normal;
+mod share;
 mod term;
 
 pub use calculation::calculated;
@@ -16,4 +18,5 @@ pub use fraction::Dyadic;
 pub use head::{Head, Kind, Name};
 pub use linear::{Linear, Weighted, form, times_each, together};
 pub use literal::Literal;
+pub use share::NormalFault;
 pub use term::{Term, TermList};

@@ -26,7 +26,7 @@ pub struct Term {
 #[cycle(term)]
 #[derive(Debug, Drop)]
 pub struct TermList {
-    items: Vec<Term>,
+    pub(crate) items: Vec<Term>,
 }
 
 impl Model for Term {
