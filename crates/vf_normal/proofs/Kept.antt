@@ -105,13 +105,13 @@ module _ (i : Interpretation) (v : Valuation) where
       calculated_value i v Add (calculated Multiply (number k) t) (added_up ks ts)
       ∙ ap₂ (λ x y. values.Number (number_of x +ℤ number_of y)) (calculated_value i v Multiply (number k) t) (added_up_value ks ts)
 
-  number_known : (t : Term) (o : Option ℤ) → number_in t ≡ o → Is o (value i v t)
+  pub number_known : (t : Term) (o : Option ℤ) → number_in t ≡ o → Is o (value i v t)
   number_known (term (Number z) ts) None e = cc
   number_known (term (Number z) ts) (Some y) e = cc
   number_known t None e = tt
   number_known t (Some y) e = cc
 
-  comparison_value : (op : Comparison) (a b : Term) (o p : Option ℤ) → Is o (value i v a) → Is p (value i v b) → value i v (comparison op a b o p) ≡ values.Truth (compared op (value i v a) (value i v b))
+  pub comparison_value : (op : Comparison) (a b : Term) (o p : Option ℤ) → Is o (value i v a) → Is p (value i v b) → value i v (comparison op a b o p) ≡ values.Truth (compared op (value i v a) (value i v b))
   comparison_value op a b (Some y) (Some z) e d = ap₂ (λ x w. values.Truth (compared op x w)) e d
   comparison_value op a b (Some y) None e d = refl
   comparison_value op a b None p e d = refl

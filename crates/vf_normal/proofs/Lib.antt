@@ -4,3 +4,4 @@ pub mod Worth
 pub mod Kept
 pub mod Stay
 pub mod Reached
+pub mod Compared

@@ -140,7 +140,7 @@ module _ (i : Interpretation) (v : Valuation) where
   integer_by_value Integer t h = h refl
   integer_by_value Other t h = ap values.Number (once_alone (num t))
 
-  of_integer : (k : Kind) (w : Value) → k ≡ Integer → of_kind k w ≡ values.Number (number_of (of_kind k w))
+  pub of_integer : (k : Kind) (w : Value) → k ≡ Integer → of_kind k w ≡ values.Number (number_of (of_kind k w))
   of_integer Integer w e = refl
   of_integer Other w e = cc
 

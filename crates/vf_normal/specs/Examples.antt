@@ -1,11 +1,13 @@
--- Worked examples of normal forms.
-use Rattle.std.specs.Prelude.{◌≡◌, ◌^◌, pos, neg_ℤ, true, [], ◌∷◌}
-use Rattle.vf_tree.specs.Core.{Add, Subtract, Multiply, Divide, Remainder, Less}
+-- Worked examples of normal forms and of the literals of comparisons.
+use Rattle.std.specs.Prelude.{◌≡◌, ◌+◌, ◌^◌, pos, neg_ℤ, true, [], ◌∷◌}
+use Rattle.vf_tree.specs.Core.{Add, Subtract, Multiply, Divide, Remainder, Equal, NotEqual, Less, LessEqual, Greater, GreaterEqual}
 use Rattle.vf_model.specs.Values.{Odd}
 use Rattle.vf_meaning.specs.Ghost.{Numbered}
-use Rattle.vf_closure.specs.Terms.{Integer, Other, Symbol, Truth, Share, Sum, Compare, Choose, PointerSum, Term, Terms, term, no_terms, and_term, number, plus}
+use Rattle.vf_closure.specs.Terms.{Integer, Other, Symbol, Truth, Share, Sum, Plus, Compare, Choose, PointerSum, Term, Terms, term, no_terms, and_term, number, plus}
+use Rattle.vf_closure.specs.Literals.{AtMost, Difference, NotDifference}
 use Rattle.vf_normal.specs.Sums.{operation}
 use Rattle.vf_normal.specs.Normal.{normal}
+use Rattle.vf_normal.specs.Comparisons.{is_true_literal, literal_of}
 
 -- two integer symbols
 abbrev pub x : Term
@@ -60,3 +62,14 @@ pub record WorkedExamples : Type 0 where
   pub offsets : normal (term PointerSum (two (term PointerSum (two p (number (pos 1)))) (number (pos 2)))) ≡ term PointerSum (two p (number (pos 3)))
   pub no_offset : normal (term PointerSum (two p (operation Subtract x x))) ≡ p
   pub shares : normal (term (Share (Odd 0 0)) (two q (term (Share (Odd 0 0)) (one p)))) ≡ term (Share (Odd 0 1)) (two p q)
+
+-- comparisons on the left with their literals on the right
+pub record ComparisonExamples : Type 0 where
+  pub less : literal_of Less x (number (pos 4)) ≡ AtMost x (number (pos 0)) (pos 3)
+  pub greater : literal_of Greater x (number (pos 4)) ≡ AtMost (number (pos 0)) x (neg_ℤ (pos 5))
+  pub at_most : literal_of LessEqual (plus x (pos 3)) y ≡ AtMost x y (neg_ℤ (pos 3))
+  pub at_least : literal_of GreaterEqual x y ≡ AtMost y x (pos 0)
+  pub equal : literal_of Equal (term (Sum (pos 1 ∷ pos 2 ∷ [])) (two x y)) (plus x (pos 6)) ≡ Difference (term (Sum (pos 2 ∷ [])) (one y)) (number (pos 0)) (pos 6)
+  pub not_equal : literal_of NotEqual x (term (Sum (pos 1 ∷ pos 2 ∷ [])) (two x y)) ≡ NotDifference (number (pos 0)) (term (Sum (pos 2 ∷ [])) (one y)) (pos 0)
+  pub farthest : literal_of Less great (term Plus (two x (number (neg_ℤ (pos (2 ^ 90)))))) ≡ AtMost (number (pos 0)) x (neg_ℤ (pos (2 ^ 91 + 1)))
+  pub past : literal_of Less x (number (pos (2 ^ 91))) ≡ is_true_literal (term (Compare Less) (two x (number (pos (2 ^ 91)))))

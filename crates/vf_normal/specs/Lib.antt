@@ -4,3 +4,4 @@ pub mod Normal
 pub mod NormalForms
 pub mod Laws
 pub mod Examples
+pub mod Comparisons
