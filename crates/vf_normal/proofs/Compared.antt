@@ -43,17 +43,17 @@ module _ (i : Interpretation) (v : Valuation) where
   worth_apart (w ∷ ws) = worth_by w (above ws) (below ws) (worth i v ws) (int_lt (pos 0) w.factor) (int_lt w.factor (pos 0)) refl refl (worth_apart ws)
 
   -- the sums of both sides of a difference
-  apart : (a b : Term) → (worth i v (above (difference a b).atoms) -ℤ worth i v (below (difference a b).atoms)) +ℤ (difference a b).number ≡ num i v a -ℤ num i v b
+  apart : (a b : Term) → (worth i v (above (difference (form_of a) (form_of b)).atoms) -ℤ worth i v (below (difference (form_of a) (form_of b)).atoms)) +ℤ (difference (form_of a) (form_of b)).number ≡ num i v a -ℤ num i v b
   apart a b =
-      ap (λ z. z +ℤ (difference a b).number) (sym (worth_apart (difference a b).atoms))
+      ap (λ z. z +ℤ (difference (form_of a) (form_of b)).number) (sym (worth_apart (difference (form_of a) (form_of b)).atoms))
       ∙ combined_gives i v Subtract (form_of a) (form_of b)
       ∙ ap₂ (λ x y. x -ℤ y) (form_total i v a) (form_total i v b)
 
-  left_is : (a b : Term) → number_of (value i v (sum_of (above (difference a b).atoms))) ≡ worth i v (above (difference a b).atoms)
-  left_is a b = ap number_of (sum_value i v (above (difference a b).atoms))
+  left_is : (a b : Term) → number_of (value i v (sum_of (above (difference (form_of a) (form_of b)).atoms))) ≡ worth i v (above (difference (form_of a) (form_of b)).atoms)
+  left_is a b = ap number_of (sum_value i v (above (difference (form_of a) (form_of b)).atoms))
 
-  right_is : (a b : Term) → number_of (value i v (sum_of (below (difference a b).atoms))) ≡ worth i v (below (difference a b).atoms)
-  right_is a b = ap number_of (sum_value i v (below (difference a b).atoms))
+  right_is : (a b : Term) → number_of (value i v (sum_of (below (difference (form_of a) (form_of b)).atoms))) ≡ worth i v (below (difference (form_of a) (form_of b)).atoms)
+  right_is a b = ap number_of (sum_value i v (below (difference (form_of a) (form_of b)).atoms))
 
   integer_is : (t : Term) → IsInteger t → value i v t ≡ values.Number (num i v t)
   integer_is (term h ts) e = of_integer i v (kind_of h) (applied i v h (all_values i v ts)) e
@@ -88,7 +88,7 @@ through : (A B C : Type 0) → A ↔ B → C ↔ B → A ↔ C
 through A B C e d = (λ a. d.1 (e.0 a), λ c. e.1 (d.0 c))
 
 module _ (i : Interpretation) (v : Valuation) where
-  by_difference : (op : Comparison) (a b : Term) → IsInteger a → IsInteger b → Holds i v (difference_literal op a b) ↔ (compared op (value i v a) (value i v b) ≡ true)
+  by_difference : (op : Comparison) (a b : Term) → IsInteger a → IsInteger b → Holds i v (difference_literal op (form_of a) (form_of b)) ↔ (compared op (value i v a) (value i v b) ≡ true)
   by_difference Equal a b m n =
       through _ _ _ (same _ _ _ _ (num i v a) (num i v b) _ (left_is i v a b) (right_is i v a b) (apart i v a b)) (told (num i v a) (num i v b) (value i v a) (value i v b) (integer_is i v a m) (integer_is i v b n))
   by_difference NotEqual a b m n =
@@ -103,7 +103,7 @@ module _ (i : Interpretation) (v : Valuation) where
       let e = comparison_value i v op a b (number_in a) (number_in b) (number_known i v a (number_in a) refl) (number_known i v b (number_in b) refl) in
       (λ h. ap is_true (sym e ∙ h), λ h. e ∙ ap values.Truth h)
 
-  by_either : (op : Comparison) (a b : Term) (c : Bool) → IsInteger a → IsInteger b → Holds i v (cond c (difference_literal op a b) (is_true_literal (comparison op a b (number_in a) (number_in b)))) ↔ (compared op (value i v a) (value i v b) ≡ true)
+  by_either : (op : Comparison) (a b : Term) (c : Bool) → IsInteger a → IsInteger b → Holds i v (cond c (difference_literal op (form_of a) (form_of b)) (is_true_literal (comparison op a b (number_in a) (number_in b)))) ↔ (compared op (value i v a) (value i v b) ≡ true)
   by_either op a b true m n = by_difference op a b m n
   by_either op a b false m n = by_term op a b
 

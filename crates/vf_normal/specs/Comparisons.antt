@@ -7,9 +7,9 @@ use Rattle.vf_closure.specs.Literals as literals
 use Rattle.vf_normal.specs.Sums.{Weighted, Linear, is_small, added, scaled, form_of, number_in, sum_of}
 use Rattle.vf_normal.specs.Normal.{comparison}
 
--- the first of two terms in normal form less the second, as a linear sum
-abbrev pub difference : Term → Term → Linear
-difference a b = added (form_of a) (scaled (neg_ℤ (pos 1)) (form_of b))
+-- the first of two linear sums less the second
+abbrev pub difference : Linear → Linear → Linear
+difference f g = added f (scaled (neg_ℤ (pos 1)) g)
 
 -- the atoms whose factors are above 0
 abbrev pub above : List Weighted → List Weighted
@@ -35,14 +35,14 @@ is_nought f = Difference (sum_of (above f.atoms)) (sum_of (below f.atoms)) (neg_
 abbrev pub is_not_nought : Linear → Literal
 is_not_nought f = NotDifference (sum_of (above f.atoms)) (sum_of (below f.atoms)) (neg_ℤ f.number)
 
--- the literal of a comparison of two integer terms in normal form, by the difference of its sides
-abbrev pub difference_literal : Comparison → Term → Term → Literal
-difference_literal Equal a b = is_nought (difference a b)
-difference_literal NotEqual a b = is_not_nought (difference a b)
-difference_literal Less a b = below_nought (difference a b)
-difference_literal LessEqual a b = at_most_nought (difference a b)
-difference_literal Greater a b = below_nought (difference b a)
-difference_literal GreaterEqual a b = at_most_nought (difference b a)
+-- the literal of a comparison of two linear sums, by their difference
+abbrev pub difference_literal : Comparison → Linear → Linear → Literal
+difference_literal Equal f g = is_nought (difference f g)
+difference_literal NotEqual f g = is_not_nought (difference f g)
+difference_literal Less f g = below_nought (difference f g)
+difference_literal LessEqual f g = at_most_nought (difference f g)
+difference_literal Greater f g = below_nought (difference g f)
+difference_literal GreaterEqual f g = at_most_nought (difference g f)
 
 -- a truth value is true
 abbrev pub is_true_literal : Term → Literal
@@ -50,4 +50,4 @@ is_true_literal t = literals.Equal t (term (Truth true) no_terms)
 
 -- The literal of a comparison of two integer terms in normal form. Where a side is a number past plus or minus 2^90, it says of the comparison as a term that it is true
 abbrev pub literal_of : Comparison → Term → Term → Literal
-literal_of op a b = cond (is_small (form_of a).number && is_small (form_of b).number) (difference_literal op a b) (is_true_literal (comparison op a b (number_in a) (number_in b)))
+literal_of op a b = cond (is_small (form_of a).number && is_small (form_of b).number) (difference_literal op (form_of a) (form_of b)) (is_true_literal (comparison op a b (number_in a) (number_in b)))
