@@ -3,3 +3,4 @@ pub mod Fractions
 pub mod Merging
 pub mod Calculating
 pub mod Parts
+pub mod Splitting

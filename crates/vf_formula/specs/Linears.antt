@@ -1,5 +1,5 @@
 -- How the logic stores linear sums, and what their code needs.
-use Rattle.std.specs.Prelude.{ℤ, List, ◌≡◌, false, true, Option, Some, None}
+use Rattle.std.specs.Prelude.{ℤ, pos, neg_ℤ, ◌≤ℤ◌, ◌^◌, List, [], ◌∷◌, ◌≡◌, false, true, Option, Some, None}
 use Rattle.std.proofs.Common.{refl}
 use Rattle.std.specs.Coded.{Coded, code_by, coded×, coded_ℤ, coded_list}
 use Rattle.vf_closure.specs.Terms.{Term}
@@ -30,3 +30,17 @@ IsFitted f None = fits f ≡ false
 abbrev pub IsCombined : Option Linear → Option Linear → Type 0
 IsCombined o (Some g) = o ≡ Some g
 IsCombined o None = StaysApart o
+
+-- a number is within plus and minus 2^91
+abbrev pub IsWide : ℤ → Type 0
+IsWide z = (neg_ℤ (pos (2 ^ 91)) ≤ℤ z) × (z ≤ℤ pos (2 ^ 91))
+
+-- each factor is within these bounds
+abbrev pub AreWide : List Weighted → Type 0
+AreWide [] = Unit {0}
+AreWide (w ∷ ws) = IsWide w.factor × AreWide ws
+
+-- the factors and the number of a sum are within these bounds
+pub record IsDifference (f : Linear) : Type 0 where
+  pub factors : AreWide f.atoms
+  pub number : IsWide f.number

@@ -5,6 +5,7 @@
 #![tactic(auto)]
 
 mod calculation;
+mod comparison;
 mod fraction;
 mod head;
 mod linear;
@@ -14,6 +15,7 @@ mod share;
 mod term;
 
 pub use calculation::calculated;
+pub use comparison::comparison_literal;
 pub use fraction::Dyadic;
 pub use head::{Head, Kind, Name};
 pub use linear::{Linear, Weighted, form, times_each, together};

@@ -68,7 +68,7 @@ impl Weighted {
 }
 
 /// Whether a number is small enough to stand in a sum.
-fn is_small(number: i128) -> bool
+pub(crate) fn is_small(number: i128) -> bool
     ensures { result ≡ is_small number }
 {
     -GREATEST <= number && number <= GREATEST
@@ -337,7 +337,7 @@ fn sum_of_one(alloc: Global, weighted: &Weighted) -> Result<Term, Memory>
 
 /// Atoms added up: none is 0, and one with factor 1 is that atom itself.
 #[tactic(auto, using(crate::proofs::Merging::one_is, crate::proofs::Merging::many_are))]
-fn sum(alloc: Global, atoms: &[Weighted]) -> Result<Term, Memory>
+pub(crate) fn sum(alloc: Global, atoms: &[Weighted]) -> Result<Term, Memory>
     ensures { IfOk result (λ t. t ≡ sum_of atoms.now) }
 {
     if atoms.len() == 0 {

@@ -74,7 +74,12 @@ fn compared(comparison: Comparison, left: i128, right: i128) -> bool
 }
 
 /// A comparison of two terms in normal form: of two numbers its truth value.
-fn comparison(alloc: Global, operator: Comparison, left: Term, right: Term) -> Result<Term, Memory>
+pub(crate) fn comparison(
+    alloc: Global,
+    operator: Comparison,
+    left: Term,
+    right: Term,
+) -> Result<Term, Memory>
     ensures { IfOk result (λ t. t ≡ comparison (comparison_of operator) left right (number_in left) (number_in right)) }
 {
     match left.number() {
@@ -213,6 +218,7 @@ impl Term {
     #[cycle(normal)]
     pub fn normal(&self, alloc: Global) -> Result<Term, NormalFault>
         ensures value { IfOk result (λ t. t ≡ normal self.now) }
+        ensures normal { IfOk result IsNormal }
         ensures kept { OnOk result (KeepsFractions self.now) }
         ensures fraction { IsErrOf result NormalFault.Fraction → KeepsFractions self.now → ⊥ }
     {

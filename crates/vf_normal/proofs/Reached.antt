@@ -306,7 +306,7 @@ product_good_row x no_terms n = (tt, tt)
 product_good_row x (and_term t ts) n = multiplied_good t (product_with x ts) n.0 (product_good_row x ts n.1)
 
 -- ---- every head
-over_normal : (h : Head) (ts : Terms) → AllNormal ts → IsNormal (normal_over h ts)
+pub over_normal : (h : Head) (ts : Terms) → AllNormal ts → IsNormal (normal_over h ts)
 unfolding GoodRow
 over_normal (Number z) ts n = (refl, tt)
 over_normal (Sum ks) ts n = added_up_normal ks ts n

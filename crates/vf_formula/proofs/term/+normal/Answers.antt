@@ -1,8 +1,10 @@
 use Rattle.std.proofs.Common.{◌≡◌, ◌∙◌, ◌+◌, sym, ap, subst, drop, arith, rules}
 use Rattle.vf_normal.specs.Normal.{all_normal}
 use Rattle.vf_normal.specs.NormalForms.{AllNormal}
-use Rattle.vf_normal.proofs.Reached.{all_reached}
+use Rattle.vf_normal.proofs.Reached.{all_reached, over_normal}
 use Rattle.vf_formula.specs.Rows.{row}
+use Rattle.vf_formula.specs.Heads.{shown_head}
+use Rattle.vf_formula.proofs.Calculating.{ok_normal}
 use Rattle.vf_formula.specs.Shares.{AllKeepFractions}
 use Rattle.vf_formula.proofs.Parts.{ahead, one_more_normal, all_are_normal, kept_at, kept_more}
 use Rattle.vf_formula.proofs.term.+normal.Goals as goal
@@ -31,3 +33,8 @@ TermList::normal-returns-clause-value t c =
     let items = c.deref-item-items.result.now in
     let same : items ≡ c.args.self.now = c.deref-item-items.ensures.value ∙ c.self.view_is in
     all_are_normal c.loop-item.all items c.loop-item.item-index (omega arith) c.loop-item.invariant.value ∙ ap (λ ts. all_normal (row ts)) same
+
+pub Term::normal-returns-clause-normal : goal.Term::normal-returns-clause-normal
+Term::normal-returns-clause-normal t c =
+    ok_normal c.normal_over.result _ c.normal_over.ensures.value
+    (over_normal (shown_head c.in_ok-copy.field-0) (row c.in_ok-parts.parts) (subst AllNormal (sym c.in_ok-parts.ensures.value) (all_reached (row c.self.inside.parts))))
