@@ -1,0 +1,6 @@
+pub mod Places
+pub mod Gathering
+pub mod Has
+pub mod Asked
+pub mod Read
+pub mod Bounded

@@ -1,0 +1,11 @@
+//! Questions over terms, as questions over a table of terms.
+#![tactic(auto)]
+
+mod numbering;
+mod question;
+mod table;
+mod verdict;
+
+pub use numbering::MOST_TERMS;
+pub use question::Question;
+pub use verdict::refuted;
