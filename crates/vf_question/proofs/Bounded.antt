@@ -20,7 +20,7 @@ use Rattle.vf_question.specs.declared.numbering.TheConstants.{MOST_TERMS}
 use Rattle.vf_question.specs.declared.question.Question.{Question}
 use Rattle.vf_question.specs.Numbered.{place, terms_of, all_terms}
 use Rattle.vf_question.specs.Questions.{at, IsQuestion}
-use Rattle.vf_question.specs.Fine.{IsBounded, AreBounded}
+use Rattle.vf_question.proofs.Plainness.{IsBounded, AreBounded}
 
 one_longer : (b : Bool) (t : Term) (ts : List Term) → length (cond b ts (ts ++ t ∷ [])) ≤ length ts + 1
 one_longer true t ts = omega arith

@@ -4,3 +4,4 @@ pub mod Has
 pub mod Asked
 pub mod Read
 pub mod Bounded
+pub mod Plainness

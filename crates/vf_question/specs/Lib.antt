@@ -1,4 +1,4 @@
 pub mod Numbered
 pub mod Tabled
 pub mod Questions
-pub mod Fine
+pub mod Plain

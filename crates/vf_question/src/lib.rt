@@ -2,10 +2,12 @@
 #![tactic(auto)]
 
 mod numbering;
+mod plain;
 mod question;
 mod table;
 mod verdict;
 
 pub use numbering::MOST_TERMS;
+pub use plain::are_plain;
 pub use question::Question;
 pub use verdict::refuted;

@@ -1,11 +1,10 @@
 //! Questions over terms, decided.
 
-ghost use Rattle.std.specs.Prelude.{◌≡◌, ◌<◌, ◌≤◌, ◌↔◌, length, map, IsTrue, IfOk, MatchOption};
+ghost use Rattle.std.specs.Prelude.{◌≡◌, ◌<◌, ◌≤◌, ◌↔◌, length, map, All, IsTrue, IfOk, MatchOption};
 ghost use Rattle.vf_closure.specs.Closure.{no_unfoldings, Conflict};
 ghost use Rattle.vf_formula.specs.Literals.{shown_literal};
 ghost use Rattle.vf_question.specs.Numbered.{terms_of};
-ghost use Rattle.vf_question.specs.Questions.{AreLeaves};
-ghost use Rattle.vf_question.specs.Fine.{AreBounded};
+ghost use Rattle.vf_question.specs.Plain.{IsPlainLiteral};
 
 use crate::numbering::MOST_TERMS;
 use crate::question::Question;
@@ -18,8 +17,7 @@ use vf_reading::closures_agree;
 /// Whether the closure of some literals has a conflict, no fixpoint being unfolded; none where the
 /// literals have more terms than a question may have.
 pub fn refuted(alloc: Global, literals: &[Literal]) -> Result<Option<bool>, Memory>
-    requires leaves { AreLeaves (map shown_literal literals.now) }
-    requires bounded { AreBounded (map shown_literal literals.now) }
+    requires { All IsPlainLiteral (map shown_literal literals.now) }
     ensures { IfOk result
         (λ o. MatchOption o (MOST_TERMS < length (terms_of (map shown_literal literals.now)))
         (λ yes. (length (terms_of (map shown_literal literals.now)) ≤ MOST_TERMS) × (IsTrue yes ↔ Conflict no_unfoldings (map shown_literal literals.now)))) }
