@@ -5,6 +5,8 @@ mod numbering;
 mod plain;
 mod question;
 mod table;
+#[cfg(test)]
+mod tests;
 mod verdict;
 
 pub use numbering::MOST_TERMS;
