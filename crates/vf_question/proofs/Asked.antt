@@ -72,7 +72,7 @@ terms_once ls = term_once (number (pos 0)) (terms_of ls) (literals_once ls [] tt
 asked_arises : (ls : List Literal) (u : Term) → IsAsked u ls → Arises no_unfoldings ls zero u
 asked_arises ls u a = asked (has_contains ls a.by a.stands) (has_contains (compares a.by) a.whole a.compared) a.within
 
-within_zero : (ls : List Literal) (u t : Term) → IsWithin u t → t ≡ number (pos 0) → Arises no_unfoldings ls zero u
+pub within_zero : (ls : List Literal) (u t : Term) → IsWithin u t → t ≡ number (pos 0) → Arises no_unfoldings ls zero u
 within_zero ls u t itself e = subst (Arises no_unfoldings ls zero) (sym e) zero_arises
 within_zero ls u t (below here w) e = cc
 within_zero ls u t (below (further_on a) w) e = cc
@@ -94,7 +94,7 @@ has_arising ls d u (in_body i a b w) = cc
 has_arising ls d u (in_case i a k s e c w) = cc
 
 -- what is within what is within
-within_through : {t u s : Term} → IsWithin u t → IsWithin t s → IsWithin u s
+pub within_through : {t u s : Term} → IsWithin u t → IsWithin t s → IsWithin u s
 within_through w itself = w
 within_through w (below a v) = below a (within_through w v)
 

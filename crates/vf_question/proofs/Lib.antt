@@ -5,3 +5,4 @@ pub mod Asked
 pub mod Read
 pub mod Bounded
 pub mod Plainness
+pub mod Settled

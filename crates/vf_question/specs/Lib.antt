@@ -2,3 +2,4 @@ pub mod Numbered
 pub mod Tabled
 pub mod Questions
 pub mod Plain
+pub mod Unfolded

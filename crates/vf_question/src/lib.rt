@@ -1,6 +1,7 @@
 //! Questions over terms, as questions over a table of terms.
 #![tactic(auto)]
 
+mod laws;
 mod numbering;
 mod plain;
 mod question;
@@ -9,6 +10,7 @@ mod table;
 mod tests;
 mod verdict;
 
+pub use laws::settled_is_enough;
 pub use numbering::MOST_TERMS;
 pub use plain::are_plain;
 pub use question::Question;

@@ -1,0 +1,191 @@
+-- Settled unfoldings are all that the closure asks for.
+use Rattle.std.proofs.Common.{◌≡◌, ◌≤◌, ◌<◌, ◌+◌, ◌⊎◌, inl, inr, ℕ, zero, suc, min, Bool, true, false, cond, List, [], ◌∷◌, ◌++◌, length, nat_lt, refl, sym, ap, ◌∙◌, subst, arith}
+use Rattle.std.specs.Prelude.{Contains}
+use Rattle.std.proofs.lemmas.Bool.{false≢true, lt-ltb, ltb-true, ltb-false}
+use Rattle.std.proofs.lemmas.List.Elements.{Contains-append_cases}
+use Rattle.vf_closure.specs.Terms.{Constructor, Term, term, IsWithin}
+use Rattle.vf_closure.specs.Literals.{Literal, Equal, compares}
+use Rattle.vf_closure.specs.Closure.{Unfoldings, no_unfoldings, Arises, asked, zero_arises, deeper, in_body, in_case, Same, unfolds, unfolds_case}
+use Rattle.vf_closure.specs.Made.{IsMade, AreAllMade}
+use Rattle.vf_closure.proofs.Enough.{unfoldings_enough}
+use Rattle.vf_question.specs.Numbered.{place, with_term, all_terms}
+use Rattle.vf_question.specs.Unfolded.{Unfolding, equations, is_in, least_depth, depth_of, IsAskedFor, of_body, of_case, IsKnown, in_question, in_unfolding, AreRight, WasMade, AreSettled, SettledIsEnough}
+use Rattle.vf_question.proofs.Has.{Has, contains_has, has_contains, has_place, place_has, term_has, term_only}
+use Rattle.vf_question.proofs.Asked.{has_arising, term_arises, within_zero, within_through}
+
+-- ---- membership
+pub in_has : (t : Term) (ts : List Term) → is_in t ts ≡ true → Has ts t
+in_has t ts e = place_has t ts (ltb-true (place t ts) (length ts) e)
+
+pub has_in : (t : Term) (ts : List Term) → Has ts t → is_in t ts ≡ true
+has_in t ts h = lt-ltb (place t ts) (length ts) (has_place t ts h)
+
+in_body_within : (t b : Term) → is_in t (with_term b []) ≡ true → IsWithin t b
+in_body_within t b e = elim (term_only b [] t (in_has t (with_term b []) e)) [ inl k ↦ absurd k | inr w ↦ w ]
+
+within_in_body : (t b : Term) → IsWithin t b → is_in t (with_term b []) ≡ true
+within_in_body t b w = has_in t (with_term b []) (term_has b [] t w)
+
+-- ---- depths
+-- the least depth is that of an unfolding, or 5
+record IsLeast (ms : List Unfolding) (t : Term) (n : ℕ) : Type 0 where
+  found : Unfolding
+  stands : Has ms found
+  within : IsWithin t found.body
+  is : n ≡ found.depth + 1
+
+min_case : (x : Bool) (a b : ℕ) → nat_lt a b ≡ x → (min a b ≡ a) ⊎ (min a b ≡ b)
+min_case true a b e = let l = ltb-true a b e in inl (omega arith)
+min_case false a b e = let l = ltb-false a b e in inr (omega arith)
+
+min_one : (a b : ℕ) → (min a b ≡ a) ⊎ (min a b ≡ b)
+min_one a b = min_case (nat_lt a b) a b refl
+
+least_of : (m : Unfolding) (ms : List Unfolding) (t : Term) (n k : ℕ) → IsWithin t m.body → (n ≡ 5) ⊎ IsLeast ms t n → (k ≡ m.depth + 1) ⊎ (k ≡ n) → (k ≡ 5) ⊎ IsLeast (m ∷ ms) t k
+least_of m ms t n k w r (inl e) = inr (record { found = m; stands = inl refl; within = w; is = e })
+least_of m ms t n k w (inl f) (inr e) = inl (e ∙ f)
+least_of m ms t n k w (inr l) (inr e) = inr (record { found = l.found; stands = inr l.stands; within = l.within; is = e ∙ l.is })
+
+least_case : (x : Bool) (m : Unfolding) (ms : List Unfolding) (t : Term) (n : ℕ) → is_in t (with_term m.body []) ≡ x → (n ≡ 5) ⊎ IsLeast ms t n → (cond x (min (m.depth + 1) n) n ≡ 5) ⊎ IsLeast (m ∷ ms) t (cond x (min (m.depth + 1) n) n)
+least_case false m ms t n e (inl k) = inl k
+least_case false m ms t n e (inr l) = inr (record { found = l.found; stands = inr l.stands; within = l.within; is = l.is })
+least_case true m ms t n e r = least_of m ms t n (min (m.depth + 1) n) (in_body_within t m.body e) r (min_one (m.depth + 1) n)
+
+least_is : (ms : List Unfolding) (t : Term) → (least_depth ms t ≡ 5) ⊎ IsLeast ms t (least_depth ms t)
+least_is [] t = inl refl
+least_is (m ∷ ms) t = least_case (is_in t (with_term m.body [])) m ms t (least_depth ms t) refl (least_is ms t)
+
+-- no unfolding to a term with t within it has a lower one
+least_first : (x : Bool) (m : Unfolding) (n : ℕ) → x ≡ true → cond x (min (m.depth + 1) n) n ≤ m.depth + 1
+least_first true m n e = omega arith
+least_first false m n e = absurd (false≢true e)
+
+least_later : (x : Bool) (d n k : ℕ) → n ≤ k → cond x (min d n) n ≤ k
+least_later true d n k l = omega arith
+least_later false d n k l = l
+
+least_under : (ms : List Unfolding) (t : Term) (m : Unfolding) → Has ms m → IsWithin t m.body → least_depth ms t ≤ m.depth + 1
+least_under [] t m h w = absurd h
+least_under (k ∷ ks) t m (inl e) w = subst (λ (x : Unfolding). least_depth (k ∷ ks) t ≤ x.depth + 1) e (least_first (is_in t (with_term k.body [])) k (least_depth ks t) (within_in_body t k.body (subst (λ (x : Unfolding). IsWithin t x.body) (sym e) w)))
+least_under (k ∷ ks) t m (inr h) w = least_later (is_in t (with_term k.body [])) (k.depth + 1) (least_depth ks t) (m.depth + 1) (least_under ks t m h w)
+
+depth_case : (x : Bool) (n : ℕ) → cond x 0 n ≤ n
+depth_case true n = omega arith
+depth_case false n = omega arith
+
+depth_zero : (x : Bool) (n : ℕ) → x ≡ true → cond x 0 n ≤ 0
+depth_zero true n e = omega arith
+depth_zero false n e = absurd (false≢true e)
+
+-- what stands within an unfolding is at most one deeper
+depth_under : (facts : List Literal) (ms : List Unfolding) (t : Term) (m : Unfolding) → Contains ms m → IsWithin t m.body → depth_of facts ms t ≤ m.depth + 1
+depth_under facts ms t m c w = omega (arith, depth_case (is_in t (all_terms facts)) (least_depth ms t), least_under ms t m (contains_has ms m c) w)
+
+-- ---- what arises
+arises_too : (u : Unfoldings) (facts : List Literal) (d : ℕ) (t : Term) → Arises no_unfoldings facts d t → Arises u facts d t
+arises_too u facts d t (asked c k w) = asked c k w
+arises_too u facts d t zero_arises = zero_arises
+arises_too u facts d t (deeper {d = e} l a) = deeper l (arises_too u facts e t a)
+arises_too u facts d t (in_body l a b w) = cc
+arises_too u facts d t (in_case l a k s e c w) = cc
+
+arises_within : (facts : List Literal) (d : ℕ) (s t : Term) → Arises no_unfoldings facts d t → IsWithin s t → Arises no_unfoldings facts zero s
+arises_within facts d s t (asked c k w) v = asked c k (within_through v w)
+arises_within facts d s t zero_arises v = within_zero facts s t v refl
+arises_within facts d s t (deeper {d = e} l a) v = arises_within facts e s t a v
+arises_within facts d s t (in_body l a b w) v = cc
+arises_within facts d s t (in_case l a k r e c w) v = cc
+
+body_arises : (u : Unfoldings) (facts : List Literal) (m : Unfolding) (t : Term) → IsAskedFor u facts m → IsWithin t m.body → Arises u facts (suc m.depth) t
+body_arises u facts m t (of_body l a e) w = in_body l a e w
+body_arises u facts m t (of_case l a k e q f) w = in_case l a k e q f w
+
+below_four : (u : Unfoldings) (facts : List Literal) (m : Unfolding) → IsAskedFor u facts m → m.depth < 4
+below_four u facts m (of_body l a e) = l
+below_four u facts m (of_case l a k e q f) = l
+
+does_follow : (u : Unfoldings) (facts : List Literal) (m : Unfolding) → IsAskedFor u facts m → Same u facts m.application m.body
+does_follow u facts m (of_body l a e) = unfolds l a e
+does_follow u facts m (of_case l a k e q f) = unfolds_case l a k e q f
+
+-- an equation is that of an unfolding
+record IsEquation (ms : List Unfolding) (l : Literal) : Type 0 where
+  found : Unfolding
+  stands : Has ms found
+  is : Equal found.application found.body ≡ l
+
+equation_of : (ms : List Unfolding) (l : Literal) → Has (equations ms) l → IsEquation ms l
+equation_of [] l h = absurd h
+equation_of (m ∷ ms) l (inl e) = record { found = m; stands = inl refl; is = e }
+equation_of (m ∷ ms) l (inr h) = let r = equation_of ms l h in record { found = r.found; stands = inr r.stands; is = r.is }
+
+has_equation : (ms : List Unfolding) (m : Unfolding) → Has ms m → Has (equations ms) (Equal m.application m.body)
+has_equation [] m h = absurd h
+has_equation (k ∷ ks) m (inl e) = inl (ap (λ (x : Unfolding). Equal x.application x.body) e)
+has_equation (k ∷ ks) m (inr h) = inr (has_equation ks m h)
+
+module _ (u : Unfoldings) (facts : List Literal) (made : List Unfolding) (right : AreRight u facts made) where
+  known_within : (s t : Term) → IsKnown facts made t → IsWithin s t → IsKnown facts made s
+  known_within s t (in_question a) w = in_question (arises_within facts zero s t a w)
+  known_within s t (in_unfolding c v) w = in_unfolding c (within_through w v)
+
+  compared_case : (m : Unfolding) (s t : Term) → Contains made m → Has (m.application ∷ m.body ∷ []) s → IsWithin t s → IsKnown facts made t
+  compared_case m s t c (inl e) w = known_within t m.application (right.known m c) (subst (IsWithin t) (sym e) w)
+  compared_case m s t c (inr (inl e)) w = in_unfolding c (subst (IsWithin t) (sym e) w)
+  compared_case m s t c (inr (inr k)) w = absurd k
+
+  compared_known : (m : Unfolding) (l : Literal) (s t : Term) → Contains made m → Equal m.application m.body ≡ l → Has (compares l) s → IsWithin t s → IsKnown facts made t
+  compared_known m l s t c e h w = compared_case m s t c (subst (λ (x : Literal). Has (compares x) s) (sym e) h) w
+
+  arises_known : (d : ℕ) (t : Term) → Arises no_unfoldings (facts ++ equations made) d t → IsKnown facts made t
+  arises_known d t (asked {l} {s} c k w) = elim (Contains-append_cases facts (equations made) l c) [
+    | inl q ↦ in_question (asked q k w)
+    | inr q ↦ let r = equation_of made l (contains_has (equations made) l q) in compared_known r.found l s t (has_contains made r.found r.stands) r.is (contains_has (compares l) s k) w
+  ]
+  arises_known d t zero_arises = in_question zero_arises
+  arises_known d t (deeper {d = e} l a) = arises_known e t a
+  arises_known d t (in_body l a b w) = cc
+  arises_known d t (in_case l a k r e c w) = cc
+
+  arises_least : (t : Term) (m : Unfolding) → Contains made m → IsWithin t m.body → (least_depth made t ≡ 5) ⊎ IsLeast made t (least_depth made t) → Arises u facts (least_depth made t) t
+  arises_least t m c w (inl e) = let b = below_four u facts m (right.asked m c) in let k = least_under made t m (contains_has made m c) w in absurd (omega arith)
+  arises_least t m c w (inr l) =
+      let a = body_arises u facts l.found t (right.asked l.found (has_contains made l.found l.stands)) l.within in
+      let e : suc l.found.depth ≡ least_depth made t = omega (arith, l.is) in
+      subst (λ (n : ℕ). Arises u facts n t) e a
+
+  arises_case : (x : Bool) (t : Term) → is_in t (all_terms facts) ≡ x → IsKnown facts made t → Arises u facts (cond x 0 (least_depth made t)) t
+  arises_case true t e k = arises_too u facts zero t (term_arises facts t (in_has t (all_terms facts) e))
+  arises_case false t e (in_question a) = absurd (false≢true (sym e ∙ has_in t (all_terms facts) (has_arising facts zero t a)))
+  arises_case false t e (in_unfolding {m} c w) = arises_least t m c w (least_is made t)
+
+  -- a term that is known arises at its depth
+  pub known_arises : (t : Term) → IsKnown facts made t → Arises u facts (depth_of facts made t) t
+  known_arises t k = arises_case (is_in t (all_terms facts)) t refl k
+
+  made_right : (l : Literal) → Contains (equations made) l → IsMade u facts l
+  made_right l c =
+      let r = equation_of made l (contains_has (equations made) l c) in
+      record { application = r.found.application; body = r.found.body; is = sym r.is; follows = does_follow u facts r.found (right.asked r.found (has_contains made r.found r.stands)) }
+
+  was_equation : (t b : Term) (d : ℕ) → WasMade made t b d → Contains (equations made) (Equal t b)
+  was_equation t b d w =
+      let h = has_equation made w.found (contains_has made w.found w.stands) in
+      has_contains (equations made) (Equal t b) (subst (λ (x : Term). Has (equations made) (Equal t x)) w.body (subst (λ (x : Term). Has (equations made) (Equal x w.found.body)) w.application h))
+
+  was_depth : (t b s : Term) (d : ℕ) → WasMade made t b d → IsWithin s b → depth_of facts made s ≤ suc d
+  was_depth t b s d w v = omega (arith, w.depth, depth_under facts made s w.found w.stands (subst (IsWithin s) (sym w.body) v))
+
+  all_made : AreSettled u facts made → AreAllMade u facts (equations made) (depth_of facts made)
+  all_made settled = record {
+    right = made_right;
+    reached = λ t a. known_arises t (arises_known zero t a);
+    first = λ t a. depth_zero (is_in t (all_terms facts)) (least_depth made t) (has_in t (all_terms facts) (has_arising facts zero t a));
+    bodies = λ t b a l e. was_equation t b (depth_of facts made t) (settled.bodies t b (arises_known zero t a) l e);
+    body_depths = λ t b s a l e w. was_depth t b s (depth_of facts made t) (settled.bodies t b (arises_known zero t a) l e) w;
+    cases = λ d c ks t a b i j m n l e q f. was_equation t b d (settled.cases d c ks t a b (arises_known zero t i) (arises_known zero (term (Constructor c) ks) j) m n l e q f);
+    case_depths = λ d c ks t a b s i j m n l e q f w. was_depth t b s d (settled.cases d c ks t a b (arises_known zero t i) (arises_known zero (term (Constructor c) ks) j) m n l e q f) w;
+  }
+
+pub settled_enough : SettledIsEnough
+settled_enough u facts made right settled = unfoldings_enough u facts (equations made) (depth_of facts made) (all_made u facts made right settled)
