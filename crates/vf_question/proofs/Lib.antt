@@ -6,3 +6,4 @@ pub mod Read
 pub mod Bounded
 pub mod Plainness
 pub mod Settled
+pub mod Ending

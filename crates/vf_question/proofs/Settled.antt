@@ -1,15 +1,16 @@
 -- Settled unfoldings are all that the closure asks for.
 use Rattle.std.proofs.Common.{◌≡◌, ◌≤◌, ◌<◌, ◌+◌, ◌⊎◌, inl, inr, ℕ, zero, suc, min, Bool, true, false, cond, List, [], ◌∷◌, ◌++◌, length, nat_lt, refl, sym, ap, ◌∙◌, subst, arith}
-use Rattle.std.specs.Prelude.{Contains}
+use Rattle.std.specs.Prelude.{ℤ, ◌-◌, Contains}
 use Rattle.std.proofs.lemmas.Bool.{false≢true, lt-ltb, ltb-true, ltb-false}
-use Rattle.std.proofs.lemmas.List.Elements.{Contains-append_cases}
-use Rattle.vf_closure.specs.Terms.{Constructor, Term, term, IsWithin}
-use Rattle.vf_closure.specs.Literals.{Literal, Equal, compares}
+use Rattle.std.proofs.lemmas.List.Elements.{Contains-append_left, Contains-append_cases}
+use Rattle.vf_closure.specs.Terms.{Constructor, Term, Terms, term, IsWithin}
+use Rattle.vf_closure.specs.Literals.{Literal, Equal, AtMost, Difference, compares}
+use Rattle.vf_closure.specs.Closure as T
 use Rattle.vf_closure.specs.Closure.{Unfoldings, no_unfoldings, Arises, asked, zero_arises, deeper, in_body, in_case, Same, unfolds, unfolds_case}
 use Rattle.vf_closure.specs.Made.{IsMade, AreAllMade}
 use Rattle.vf_closure.proofs.Enough.{unfoldings_enough}
 use Rattle.vf_question.specs.Numbered.{place, with_term, all_terms}
-use Rattle.vf_question.specs.Unfolded.{Unfolding, equations, is_in, least_depth, depth_of, IsAskedFor, of_body, of_case, IsKnown, in_question, in_unfolding, AreRight, WasMade, AreSettled, SettledIsEnough}
+use Rattle.vf_question.specs.Unfolded.{Unfolding, equations, is_in, least_depth, depth_of, IsAskedFor, of_body, of_case, IsKnown, in_question, in_unfolding, AreRight, IsNext, next_body, next_case, NextIsRight, WasMade, AreSettled, SettledIsEnough}
 use Rattle.vf_question.proofs.Has.{Has, contains_has, has_contains, has_place, place_has, term_has, term_only}
 use Rattle.vf_question.proofs.Asked.{has_arising, term_arises, within_zero, within_through}
 
@@ -100,7 +101,7 @@ body_arises : (u : Unfoldings) (facts : List Literal) (m : Unfolding) (t : Term)
 body_arises u facts m t (of_body l a e) w = in_body l a e w
 body_arises u facts m t (of_case l a k e q f) w = in_case l a k e q f w
 
-below_four : (u : Unfoldings) (facts : List Literal) (m : Unfolding) → IsAskedFor u facts m → m.depth < 4
+pub below_four : (u : Unfoldings) (facts : List Literal) (m : Unfolding) → IsAskedFor u facts m → m.depth < 4
 below_four u facts m (of_body l a e) = l
 below_four u facts m (of_case l a k e q f) = l
 
@@ -181,11 +182,88 @@ module _ (u : Unfoldings) (facts : List Literal) (made : List Unfolding) (right 
     right = made_right;
     reached = λ t a. known_arises t (arises_known zero t a);
     first = λ t a. depth_zero (is_in t (all_terms facts)) (least_depth made t) (has_in t (all_terms facts) (has_arising facts zero t a));
-    bodies = λ t b a l e. was_equation t b (depth_of facts made t) (settled.bodies t b (arises_known zero t a) l e);
-    body_depths = λ t b s a l e w. was_depth t b s (depth_of facts made t) (settled.bodies t b (arises_known zero t a) l e) w;
-    cases = λ d c ks t a b i j m n l e q f. was_equation t b d (settled.cases d c ks t a b (arises_known zero t i) (arises_known zero (term (Constructor c) ks) j) m n l e q f);
-    case_depths = λ d c ks t a b s i j m n l e q f w. was_depth t b s d (settled.cases d c ks t a b (arises_known zero t i) (arises_known zero (term (Constructor c) ks) j) m n l e q f) w;
+    bodies = λ t b a l e. was_equation t b (depth_of facts made t) (settled (record { application = t; body = b; depth = depth_of facts made t }) (next_body l (arises_known zero t a) (omega arith) e));
+    body_depths = λ t b s a l e w. was_depth t b s (depth_of facts made t) (settled (record { application = t; body = b; depth = depth_of facts made t }) (next_body l (arises_known zero t a) (omega arith) e)) w;
+    cases = λ d c ks t a b i j m n l e q f. was_equation t b d (settled (record { application = t; body = b; depth = d }) (next_case l (arises_known zero t i) (arises_known zero (term (Constructor c) ks) j) m n e q f));
+    case_depths = λ d c ks t a b s i j m n l e q f w. was_depth t b s d (settled (record { application = t; body = b; depth = d }) (next_case l (arises_known zero t i) (arises_known zero (term (Constructor c) ks) j) m n e q f)) w;
   }
 
 pub settled_enough : SettledIsEnough
 settled_enough u facts made right settled = unfoldings_enough u facts (equations made) (depth_of facts made) (all_made u facts made right settled)
+
+-- ---- one more
+raise : (u : Unfoldings) (facts : List Literal) (t : Term) (n e d : ℕ) → e + n ≡ d → d ≤ 4 → Arises u facts e t → Arises u facts d t
+raise u facts t zero e d h l a = let k : e ≡ d = omega arith in subst (λ (x : ℕ). Arises u facts x t) k a
+raise u facts t (suc n) e d h l a = raise u facts t n (suc e) d (omega arith) l (deeper (omega arith) a)
+
+equal_out : {u : Unfoldings} {facts : List Literal} (a b : Term) → IsMade u facts (Equal a b) → Same u facts a b
+equal_out {u} {facts} a b r =
+    let e = r.is in
+    let f : r.application ≡ a = cc in
+    let g : r.body ≡ b = cc in
+    subst (λ (x : Term). Same u facts x b) f (subst (Same u facts r.application) g r.follows)
+
+-- what is equal by the facts and the equations is equal in the closure
+module _ (u : Unfoldings) (facts : List Literal) (made : List Unfolding) (right : AreRight u facts made) where
+  whole_arises : {d : ℕ} {t : Term} → Arises no_unfoldings (facts ++ equations made) d t → Arises u facts (depth_of facts made t) t
+  whole_arises {d} {t} a = known_arises u facts made right t (arises_known u facts made right d t a)
+
+  given_out : (a b : Term) → Contains (facts ++ equations made) (Equal a b) → Same u facts a b
+  given_out a b h = elim (Contains-append_cases facts (equations made) (Equal a b) h) [ inl k ↦ T.given k | inr k ↦ equal_out a b (made_right u facts made right (Equal a b) k) ]
+
+  fact_out : (l : Literal) → (IsMade u facts l → ⊥) → Contains (facts ++ equations made) l → Contains facts l
+  fact_out l none h = elim (Contains-append_cases facts (equations made) l h) [ inl k ↦ k | inr k ↦ absurd (none (made_right u facts made right l k)) ]
+
+  mutual
+    same_out : {s t : Term} → Same no_unfoldings (facts ++ equations made) s t → Same u facts s t
+    same_out (T.given {a = a} {b = b} h) = given_out a b h
+    same_out (T.same_self h) = T.same_self (whole_arises h)
+    same_out (T.same_back h) = T.same_back (same_out h)
+    same_out (T.same_through h k) = T.same_through (same_out h) (same_out k)
+    same_out (T.congruent h k e) = T.congruent (whole_arises h) (whole_arises k) (all_out e)
+    same_out (T.injective e n p q) = T.injective (same_out e) n p q
+    same_out (T.squeezed i j h k) = T.squeezed i j (bound_out h) (bound_out k)
+    same_out (T.unfolds l h e) = absurd (cc)
+    same_out (T.unfolds_case l i j e q f) = absurd (cc)
+
+    all_out : {xs ys : Terms} → T.AllSame no_unfoldings (facts ++ equations made) xs ys → T.AllSame u facts xs ys
+    all_out T.no_more = T.no_more
+    all_out (T.one_more h k) = T.one_more (same_out h) (all_out k)
+
+    bound_out : {s t : Term} {c : ℤ} → T.Bound no_unfoldings (facts ++ equations made) s t c → T.Bound u facts s t c
+    bound_out (T.most {x = x} {y = y} {c = c} h) = T.most (fact_out (AtMost x y c) (λ r. let e = r.is in cc) h)
+    bound_out (T.difference_up {x = x} {y = y} {c = c} h) = T.difference_up (fact_out (Difference x y c) (λ r. let e = r.is in cc) h)
+    bound_out (T.difference_down {x = x} {y = y} {c = c} h) = T.difference_down (fact_out (Difference x y c) (λ r. let e = r.is in cc) h)
+    bound_out (T.still i h) = T.still i (whole_arises h)
+    bound_out (T.weaker l h) = T.weaker l (bound_out h)
+    bound_out (T.chain h k) = T.chain (bound_out h) (bound_out k)
+    bound_out (T.sum_up h) = T.sum_up (whole_arises h)
+    bound_out (T.sum_down h) = T.sum_down (whole_arises h)
+    bound_out (T.number_up h) = T.number_up (whole_arises h)
+    bound_out (T.number_down h) = T.number_down (whole_arises h)
+    bound_out (T.level i j h) = T.level i j (same_out h)
+
+  at_depth : (t : Term) (d : ℕ) → IsKnown facts made t → depth_of facts made t ≤ d → d < 4 → Arises u facts d t
+  at_depth t d k l f = raise u facts t (d - depth_of facts made t) (depth_of facts made t) d (omega arith) (omega arith) (known_arises u facts made right t k)
+
+  pub next_asked : (m : Unfolding) → IsNext u facts made m → IsAskedFor u facts m
+  next_asked m (next_body l k d e) = of_body l (at_depth m.application m.depth k d l) e
+  next_asked m (next_case {c} {ks} l k j d f e q g) = of_case l (at_depth m.application m.depth k d l) (at_depth (term (Constructor c) ks) m.depth j f l) e (same_out q) g
+
+  next_known : (m : Unfolding) → IsNext u facts made m → IsKnown facts made m.application
+  next_known m (next_body l k d e) = k
+  next_known m (next_case l k j d f e q g) = k
+
+known_more : (facts : List Literal) (made : List Unfolding) (m : Unfolding) (t : Term) → IsKnown facts made t → IsKnown facts (made ++ m ∷ []) t
+known_more facts made m t (in_question a) = in_question a
+known_more facts made m t (in_unfolding {m = k} c w) = in_unfolding (Contains-append_left made (m ∷ []) k c) w
+
+only_one : (m k : Unfolding) → Has (m ∷ []) k → m ≡ k
+only_one m k (inl e) = e
+only_one m k (inr h) = absurd h
+
+pub next_right : NextIsRight
+next_right u facts made m right next = record {
+  asked = λ k c. elim (Contains-append_cases made (m ∷ []) k c) [ inl h ↦ right.asked k h | inr h ↦ subst (IsAskedFor u facts) (only_one m k (contains_has (m ∷ []) k h)) (next_asked u facts made right m next) ];
+  known = λ k c. elim (Contains-append_cases made (m ∷ []) k c) [ inl h ↦ known_more facts made m k.application (right.known k h) | inr h ↦ subst (λ (x : Unfolding). IsKnown facts (made ++ m ∷ []) x.application) (only_one m k (contains_has (m ∷ []) k h)) (known_more facts made m m.application (next_known u facts made right m next)) ];
+}

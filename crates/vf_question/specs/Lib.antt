@@ -3,3 +3,4 @@ pub mod Tabled
 pub mod Questions
 pub mod Plain
 pub mod Unfolded
+pub mod Ends

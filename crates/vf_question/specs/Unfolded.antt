@@ -52,12 +52,20 @@ pub record WasMade (made : List Unfolding) (t b : Term) (d : ℕ) : Type 0 where
   pub body : found.body ≡ b
   pub depth : found.depth ≤ d
 
--- each unfolding that the facts and the equations of those made ask for, by the depths of the terms and without unfolding, was made
-pub record AreSettled (u : Unfoldings) (facts : List Literal) (made : List Unfolding) : Type 0 where
-  pub bodies : (t b : Term) → IsKnown facts made t → depth_of facts made t < 4 → u.body t ≡ Some b → WasMade made t b (depth_of facts made t)
-  pub cases : (d : ℕ) (c : Identity) (ks : Terms) (t a b : Term) → IsKnown facts made t → IsKnown facts made (term (Constructor c) ks) → depth_of facts made t ≤ d → depth_of facts made (term (Constructor c) ks) ≤ d → d < 4 → u.switched t ≡ Some a → Same no_unfoldings (facts ++ equations made) a (term (Constructor c) ks) → u.case t (term (Constructor c) ks) ≡ Some b → WasMade made t b d
+-- An unfolding comes next: its application is known and no deeper than it, and its body is the application's, or the case of a known term of a constructor, no deeper either, that is equal to the argument that the application goes by, by the facts and the equations of those made, without unfolding
+pub data IsNext (u : Unfoldings) (facts : List Literal) (made : List Unfolding) (m : Unfolding) : Type 0 where
+  next_body : m.depth < 4 → IsKnown facts made m.application → depth_of facts made m.application ≤ m.depth → u.body m.application ≡ Some m.body → IsNext u facts made m
+  next_case : {c : Identity} {ks : Terms} {a : Term} → m.depth < 4 → IsKnown facts made m.application → IsKnown facts made (term (Constructor c) ks) → depth_of facts made m.application ≤ m.depth → depth_of facts made (term (Constructor c) ks) ≤ m.depth → u.switched m.application ≡ Some a → Same no_unfoldings (facts ++ equations made) a (term (Constructor c) ks) → u.case m.application (term (Constructor c) ks) ≡ Some m.body → IsNext u facts made m
+
+-- each unfolding that comes next was made
+abbrev pub AreSettled : Unfoldings → List Literal → List Unfolding → Type 0
+AreSettled u facts made = (m : Unfolding) → IsNext u facts made m → WasMade made m.application m.body m.depth
 
 -- where right unfoldings were made until nothing more is asked for, the closure with unfolding has a conflict exactly where that of facts and equations has one without
 abbrev pub SettledIsEnough : Type 0
 SettledIsEnough =
     (u : Unfoldings) (facts : List Literal) (made : List Unfolding) → AreRight u facts made → AreSettled u facts made → Conflict u facts ↔ Conflict no_unfoldings (facts ++ equations made)
+
+-- right unfoldings stay right with one that comes next
+abbrev pub NextIsRight : Type 0
+NextIsRight = (u : Unfoldings) (facts : List Literal) (made : List Unfolding) (m : Unfolding) → AreRight u facts made → IsNext u facts made m → AreRight u facts (made ++ m ∷ [])

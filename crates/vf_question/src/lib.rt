@@ -10,7 +10,7 @@ mod table;
 mod tests;
 mod verdict;
 
-pub use laws::settled_is_enough;
+pub use laws::{next_is_right, settled_is_enough, unfolding_ends};
 pub use numbering::MOST_TERMS;
 pub use plain::are_plain;
 pub use question::Question;
