@@ -1,0 +1,175 @@
+//! What is declared at a place of a unit.
+
+ghost use Rattle.std.specs.Prelude.{◌≡◌};
+ghost use Rattle.std.specs.Option.{option_copied};
+ghost use Rattle.vf_declared.specs.Scopes.{declaration_of, field_of, function_type_of, has_fields, is_declared, is_later_predicate, is_visible, local_of, sees, signature_of, tag_of};
+
+use crate::ctype::CType;
+use crate::declaration::{Declaration, Meaning, Signature, Structure};
+use crate::locals::{Local, Locals};
+use crate::lookup::{at_name, has};
+use vf_base::{NumberList, Sequence, Text};
+use vf_names::Names;
+
+/// What is declared at a place of a unit.
+///
+/// Names stand beside what they mean: the third name of `names` has the third of `declarations`.
+#[derive(Drop)]
+pub struct Scope {
+    /// The number of the unit's own file.
+    pub file: u32,
+    /// For each file by its number, the headers that it includes, directly or through others.
+    pub headers: Sequence<NumberList>,
+    /// Whether `<stdlib.h>` is in the unit.
+    pub has_stdlib: bool,
+    /// Whether `<vf_arrays.h>` is in the unit.
+    pub has_arrays: bool,
+    /// The locals.
+    pub locals: Locals,
+    /// The names of file level.
+    pub names: Names,
+    /// What each of them means.
+    pub declarations: Sequence<Declaration>,
+    /// The names of the predicates that stand anywhere in the unit.
+    pub predicates: Names,
+    /// The files in which each of them stands.
+    pub predicate_files: Sequence<NumberList>,
+    /// The tags of structs.
+    pub tags: Names,
+    /// The struct of each tag.
+    pub structures: Sequence<Structure>,
+    /// The functions, by their numbers.
+    pub functions: Sequence<Signature>,
+    /// The function types, by their numbers.
+    pub function_types: Sequence<Signature>,
+}
+
+impl Scope {
+    /// Whether what is declared in a file is seen from another: from the unit's own, from itself, and from each that
+    /// includes it.
+    pub fn sees(&self, from: u32, file: u64) -> bool
+        ensures { result ≡ sees self.now from file }
+    {
+        if from == self.file || u64::from(from) == file {
+            return true;
+        }
+        match self.headers.get(from as usize) {
+            Some(files) => has(files, file),
+            None => false,
+        }
+    }
+
+    /// Whether one of some files is seen from a file.
+    #[tactic(auto, using(crate::proofs::Loops::visible_here, crate::proofs::Loops::visible_more, crate::proofs::Loops::visible_none, crate::proofs::Loops::visible_end))]
+    fn is_visible(&self, from: u32, files: &NumberList) -> bool
+        ensures { result ≡ is_visible self.now from files.now }
+    {
+        for at in 0..files.len() {
+            let Some(file) = files.get(at) else {
+                return false;
+            };
+            if self.sees(from, *file) {
+                return true;
+            }
+        }
+        false
+    }
+
+    /// The local of a name.
+    pub fn local(&self, name: &Text) -> Option<Local>
+        ensures { result ≡ local_of self.now name.now }
+    {
+        match at_name(&self.locals.names, &self.locals.meanings, name) {
+            Some(meaning) => *meaning,
+            None => None,
+        }
+    }
+
+    /// What a name of file level means in a file.
+    pub fn declaration(&self, name: &Text, from: u32) -> Option<Meaning>
+        ensures { result ≡ declaration_of self.now name.now from }
+    {
+        match at_name(&self.names, &self.declarations, name) {
+            Some(declaration) => {
+                if self.is_visible(from, &declaration.files) {
+                    Some(declaration.meaning)
+                } else {
+                    None
+                }
+            }
+            None => None,
+        }
+    }
+
+    /// Whether a name of file level is declared, in a file that is seen or not.
+    pub fn is_declared(&self, name: &[u8]) -> bool
+        ensures { result ≡ is_declared self.now name.now }
+    {
+        self.names.number(name).is_some()
+    }
+
+    /// Whether a name that is not declared yet is that of a predicate which stands later in the unit, and is seen from
+    /// a file.
+    pub fn is_later_predicate(&self, name: &Text, from: u32) -> bool
+        ensures { result ≡ is_later_predicate self.now name.now from }
+    {
+        if self.is_declared(name.as_bytes()) {
+            return false;
+        }
+        match at_name(&self.predicates, &self.predicate_files, name) {
+            Some(files) => self.is_visible(from, files),
+            None => false,
+        }
+    }
+
+    /// The number of a tag that is seen from a file.
+    pub fn tag(&self, tag: &Text, from: u32) -> Option<usize>
+        ensures { result ≡ tag_of self.now tag.now from }
+    {
+        let number = self.tags.number(tag.as_bytes())?;
+        let structure = self.structures.get(number)?;
+        if self.is_visible(from, &structure.files) {
+            Some(number)
+        } else {
+            None
+        }
+    }
+
+    /// Whether the fields of a struct are declared.
+    pub fn has_fields(&self, number: usize) -> bool
+        ensures { result ≡ has_fields self.now number }
+    {
+        match self.structures.get(number) {
+            Some(structure) => structure.fields.is_some(),
+            None => false,
+        }
+    }
+
+    /// The type of a field of a struct whose fields are seen from a file.
+    pub fn field(&self, number: usize, name: &Text, from: u32) -> Option<CType>
+        ensures { result ≡ field_of self.now number name.now from }
+    {
+        let structure = self.structures.get(number)?;
+        let Some(fields) = &structure.fields else {
+            return None;
+        };
+        if !self.sees(from, u64::from(fields.file)) {
+            return None;
+        }
+        at_name(&fields.names, &fields.types, name).copied()
+    }
+
+    /// What a function gives and takes.
+    pub fn signature(&self, number: usize) -> Option<&Signature>
+        ensures { option_copied result ≡ signature_of self.now number }
+    {
+        self.functions.get(number)
+    }
+
+    /// What the functions of a function type give and take.
+    pub fn function_type(&self, number: usize) -> Option<&Signature>
+        ensures { option_copied result ≡ function_type_of self.now number }
+    {
+        self.function_types.get(number)
+    }
+}
