@@ -13,6 +13,8 @@ mod operators;
 mod passing;
 mod refusal;
 mod simple;
+#[cfg(test)]
+mod tests;
 mod types;
 mod written;
 
