@@ -1,89 +1,117 @@
 //! The check of a refutation.
 
-ghost use Rattle.std.specs.Prelude.{◌≡◌, IsTrue, IfOk, Contains, neg_ℤ};
+ghost use Rattle.std.specs.Prelude.{◌≡◌, ◌↔◌, ◌<ℤ◌, ℤ, pos, neg_ℤ, IsTrue, IfOk, Contains, Some, slice_get};
 ghost use Rattle.vf_refute.specs.Closure.{Conflict};
-ghost use Rattle.vf_refute.specs.Steps.{AllFollow};
+ghost use Rattle.vf_refute.specs.Refutations.{CannotBe, IsImpossible, IsDenied, IsConflict, IsRefutation};
 
-use crate::rows::{Span, bound_at, derive, equality_at, negative};
+use crate::rows::{Span, bound_at, derive};
 use crate::steps::{Derived, Fact, Step};
 use std::alloc::Global;
 use vf_base::Memory;
 use vf_table::{Node, have_clashing_heads};
 
 /// Whether a fact says that two terms are not equal.
-fn are_apart(facts: &[Fact], x: u32, y: u32) -> bool
-    ensures { IsTrue result → Contains facts.now (Fact.NotEqual x y) }
+fn is_disequality(fact: Fact, x: u32, y: u32) -> bool
+    ensures { IsTrue result ↔ (fact ≡ Fact.NotEqual x y) }
 {
-    for fact in facts {
-        match fact {
-            Fact::NotEqual(a, b) => {
-                if *a == x && *b == y {
-                    return true;
-                }
-            }
-            _ => {}
-        }
+    match fact {
+        Fact::NotEqual(a, b) => a == x && b == y,
+        _ => false,
     }
-    false
 }
 
-/// Whether what a step derived cannot be.
-fn is_conflict(nodes: &[Node], facts: &[Fact], known: &[Derived], a: u32) -> bool
-    requires { AllFollow nodes.now facts.now known.now }
-    ensures { IsTrue result → Conflict nodes.now facts.now }
+/// Whether one of the facts says that two terms are not equal.
+fn are_apart(facts: &[Fact], x: u32, y: u32) -> bool
+    ensures { IsTrue result ↔ Contains facts.now (Fact.NotEqual x y) }
 {
-    if let Some(p) = equality_at(nodes, facts, known, a) {
-        return have_clashing_heads(nodes, p.left, p.right) || are_apart(facts, p.left, p.right);
-    }
-    if let Some(p) = bound_at(nodes, facts, known, a) {
-        return p.left == p.right && p.most < 0;
+    for fact in facts {
+        if is_disequality(*fact, x, y) {
+            return true;
+        }
     }
     false
 }
 
 /// Whether a fact says that the difference of two terms is not a number.
+fn is_no_difference(fact: Fact, x: u32, y: u32, c: i128) -> bool
+    ensures { IsTrue result ↔ (fact ≡ Fact.NotDifference x y c) }
+{
+    match fact {
+        Fact::NotDifference(a, b, d) => a == x && b == y && d == c,
+        _ => false,
+    }
+}
+
+/// Whether one of the facts says that the difference of two terms is not a number.
 fn is_denied(facts: &[Fact], x: u32, y: u32, c: i128) -> bool
-    ensures { IsTrue result → Contains facts.now (Fact.NotDifference x y c) }
+    ensures { IsTrue result ↔ Contains facts.now (Fact.NotDifference x y c) }
 {
     for fact in facts {
-        match fact {
-            Fact::NotDifference(a, b, d) => {
-                if *a == x && *b == y && *d == c {
-                    return true;
-                }
-            }
-            _ => {}
+        if is_no_difference(*fact, x, y, c) {
+            return true;
         }
     }
     false
 }
 
+/// Whether a term is bounded to be below itself.
+fn is_below_itself(x: u32, y: u32, most: i128) -> bool
+    ensures { IsTrue result ↔ (x ≡ y) × (most <ℤ pos 0) }
+{
+    x == y && most < 0
+}
+
+/// Whether two terms have clashing heads, or a fact says that they are not equal.
+fn cannot_be_equal(nodes: &[Node], facts: &[Fact], x: u32, y: u32) -> bool
+    ensures { IsTrue result ↔ CannotBe nodes.now facts.now (Derived.AreEqual x y) }
+{
+    have_clashing_heads(nodes, x, y) || are_apart(facts, x, y)
+}
+
+/// Whether what a step derived cannot be.
+fn cannot_be(nodes: &[Node], facts: &[Fact], derived: Derived) -> bool
+    ensures { IsTrue result ↔ CannotBe nodes.now facts.now derived }
+{
+    match derived {
+        Derived::AreEqual(x, y) => cannot_be_equal(nodes, facts, x, y),
+        Derived::AreWithin(x, y, c) => is_below_itself(x, y, c),
+        Derived::HaveDifference(_, _, _) => false,
+    }
+}
+
+/// Whether the step of a number derived what cannot be.
+fn is_impossible(nodes: &[Node], facts: &[Fact], known: &[Derived], a: u32) -> bool
+    ensures { IsTrue result ↔ IsImpossible nodes.now facts.now known.now a }
+{
+    match known.get(a as usize) {
+        Some(derived) => cannot_be(nodes, facts, *derived),
+        None => false,
+    }
+}
+
 /// Whether a bound is the opposite of another one: between the same terms the other way round, by
 /// the negative of its number.
 fn are_opposite(p: Span, q: Span) -> bool
-    ensures { IsTrue result → (q.left ≡ p.right) × (q.right ≡ p.left) × (q.most ≡ neg_ℤ p.most) }
+    ensures { IsTrue result ↔ (q.left ≡ p.right) × (q.right ≡ p.left) × (q.most ≡ neg_ℤ p.most) }
 {
-    match negative(p.most) {
-        Some(most) => {
-            if q.left != p.right {
-                return false;
-            }
-            if q.right != p.left {
-                return false;
-            }
-            q.most == most
-        }
+    if q.left != p.right {
+        return false;
+    }
+    if q.right != p.left {
+        return false;
+    }
+    match p.most.checked_neg() {
+        Some(most) => q.most == most,
         None => false,
     }
 }
 
 /// Whether two steps bound a difference both ways by a number that a fact denies it to be.
-fn is_denied_difference(nodes: &[Node], facts: &[Fact], known: &[Derived], a: u32, b: u32) -> bool
-    requires { AllFollow nodes.now facts.now known.now }
-    ensures { IsTrue result → Conflict nodes.now facts.now }
+fn is_denied_difference(facts: &[Fact], known: &[Derived], a: u32, b: u32) -> bool
+    ensures { IsTrue result ↔ IsDenied facts.now known.now a b }
 {
-    match bound_at(nodes, facts, known, a) {
-        Some(p) => match bound_at(nodes, facts, known, b) {
+    match bound_at(known, a) {
+        Some(p) => match bound_at(known, b) {
             Some(q) => {
                 if !are_opposite(p, q) {
                     return false;
@@ -98,7 +126,7 @@ fn is_denied_difference(nodes: &[Node], facts: &[Fact], known: &[Derived], a: u3
 
 /// Whether a fact is one that nothing meets.
 fn is_false(facts: &[Fact], i: u32) -> bool
-    ensures { IsTrue result → Contains facts.now Fact.False }
+    ensures { IsTrue result ↔ (slice_get facts.now i ≡ Some Fact.False) }
 {
     match facts.get(i as usize) {
         Some(Fact::False) => true,
@@ -108,24 +136,25 @@ fn is_false(facts: &[Fact], i: u32) -> bool
 
 /// Whether a step is a last one, and names a conflict.
 fn ends(nodes: &[Node], facts: &[Fact], known: &[Derived], step: &Step) -> bool
-    requires { AllFollow nodes.now facts.now known.now }
-    ensures { IsTrue result → Conflict nodes.now facts.now }
+    ensures { IsTrue result ↔ IsConflict nodes.now facts.now known.now step.now }
 {
     match step {
-        Step::Conflict(a) => is_conflict(nodes, facts, known, *a),
-        Step::DeniedDifference(a, b) => is_denied_difference(nodes, facts, known, *a, *b),
+        Step::Conflict(a) => is_impossible(nodes, facts, known, *a),
+        Step::DeniedDifference(a, b) => is_denied_difference(facts, known, *a, *b),
         Step::Falsehood(i) => is_false(facts, *i),
         _ => false,
     }
 }
 
-/// Whether steps refute the facts: each derives what it says, and the last names a conflict.
+/// Whether steps refute the facts: each but the last derives something from the question and from
+/// earlier steps, and the last, and no other, names a conflict.
 pub fn recheck(
     alloc: Global,
     nodes: &[Node],
     facts: &[Fact],
     steps: &[Step],
 ) -> Result<bool, Memory>
+    ensures exact { IfOk result (λ yes. IsTrue yes ↔ IsRefutation nodes.now facts.now steps.now) }
     ensures sound { IfOk result (λ yes. IsTrue yes → Conflict nodes.now facts.now) }
 {
     let mut known: Vec<Derived> = Vec::new(alloc);

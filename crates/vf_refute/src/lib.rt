@@ -2,7 +2,8 @@
 //!
 //! A refutation is a list of steps, each of which derives an equality or a bound from the question
 //! and from earlier steps; the last names a conflict. The check goes over it once and searches for
-//! nothing.
+//! nothing. A fact that is a difference is derived as one, and is taken as a bound either way by the
+//! steps that take an equality of integer terms as bounds.
 #![tactic(auto)]
 
 mod checking;
@@ -12,4 +13,5 @@ mod steps;
 mod tests;
 
 pub use checking::recheck;
+pub use rows::derive;
 pub use steps::{Derived, Fact, Numbers, Step};

@@ -93,3 +93,78 @@ fn bounds_refute(rt: HostRuntime) -> Result<(), Fail> {
     assert!(rt; recheck(alloc, &nodes, &[Fact::False], &[Step::Falsehood(0)])?);
     Ok(())
 }
+
+/// Congruence of the two terms f(x) and f(y), without a step for the one part.
+fn short(alloc: Global) -> Step {
+    Step::Congruent(
+        3,
+        4,
+        Numbers {
+            numbers: Vec::new(alloc),
+        },
+    )
+}
+
+#[test]
+fn steps_that_are_no_instances_are_refused(rt: HostRuntime) -> Result<(), Fail> {
+    let alloc = rt.alloc();
+    let nodes = terms(alloc)?;
+    let facts = [
+        Fact::Equal(1, 2),
+        Fact::NotEqual(1, 1),
+        Fact::NotEqual(3, 4),
+        Fact::NotEqual(2, 1),
+    ];
+    let later = [Step::Symmetric(1), Step::Fact(0), Step::Conflict(0)];
+    assert!(rt; !recheck(alloc, &nodes, &facts, &later)?);
+    let in_order = [Step::Fact(0), Step::Symmetric(0), Step::Conflict(1)];
+    assert!(rt; recheck(alloc, &nodes, &facts, &in_order)?);
+    let twice = [
+        Step::Fact(0),
+        Step::Symmetric(0),
+        Step::Conflict(1),
+        Step::Conflict(1),
+    ];
+    assert!(rt; !recheck(alloc, &nodes, &facts, &twice)?);
+    let apart = [Step::Fact(0), Step::Transitive(0, 0), Step::Conflict(1)];
+    assert!(rt; !recheck(alloc, &nodes, &facts, &apart)?);
+    let back = [
+        Step::Fact(0),
+        Step::Symmetric(0),
+        Step::Transitive(0, 1),
+        Step::Conflict(2),
+    ];
+    assert!(rt; recheck(alloc, &nodes, &facts, &back)?);
+    assert!(rt; !recheck(alloc, &nodes, &facts, &back[..3])?);
+    let denied = [Step::Fact(2), Step::Conflict(0)];
+    assert!(rt; !recheck(alloc, &nodes, &facts, &denied)?);
+    let part_short = [Step::Fact(0), short(alloc), Step::Conflict(1)];
+    assert!(rt; !recheck(alloc, &nodes, &facts, &part_short)?);
+    Ok(())
+}
+
+#[test]
+fn numbers_past_the_limit_are_refused(rt: HostRuntime) -> Result<(), Fail> {
+    let alloc = rt.alloc();
+    let nodes = terms(alloc)?;
+    let limit = 1 << 126;
+    for (above, below, expected) in [
+        (0, -1, true),
+        (0, 0, false),
+        (limit, -limit, false),
+        (-limit, 0, true),
+        (-limit, -1, false),
+        (-limit - 1, 0, false),
+        (limit + 1, -limit - 2, false),
+    ] {
+        let facts = [Fact::AtMost(1, 2, above), Fact::AtMost(2, 1, below)];
+        let chain = [
+            Step::Fact(0),
+            Step::Fact(1),
+            Step::Chain(0, 1),
+            Step::Conflict(2),
+        ];
+        assert_eq!(rt; recheck(alloc, &nodes, &facts, &chain)?, expected);
+    }
+    Ok(())
+}

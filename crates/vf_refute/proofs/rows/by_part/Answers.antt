@@ -1,14 +1,13 @@
-use Rattle.std.proofs.Common.{refl}
-use Rattle.vf_refute.specs.Closure.{injective}
-use Rattle.vf_table.proofs.Reading.{item_read}
+use Rattle.std.proofs.Common.{◌≡◌, subst}
+use Rattle.vf_refute.specs.Refutations.{AreParts}
 use Rattle.vf_refute.proofs.rows.by_part.Goals as goal
 
-pub returns-in_ok-part_at-2 : goal.returns-in_ok-part_at-2
-returns-in_ok-part_at-2 c =
-    let s = c.if-have_one_head.ensures.0 refl in
-    let x = c.in_ok-part_at.ensures.1 in
-    let y = c.in_ok-part_at-2.ensures.1 in
-    rw (x, y)
-    (injective (item_read c.args.nodes.now c.in_ok-p.p.left c.in_ok-m.m.now c.in_ok-m.ensures.lookup.0 c.in_ok-m.ensures.lookup.1)
-    (item_read c.args.nodes.now c.in_ok-p.p.right c.in_ok-n.n.now c.in_ok-n.ensures.lookup.0 c.in_ok-n.ensures.lookup.1)
-    (c.if-is_injective.ensures.0 refl) s.0 s.1 c.in_ok-part_at.ensures.0 c.in_ok-p.ensures)
+pub returns-in_err-parts : goal.returns-in_err-parts
+returns-in_err-parts c = rw c.from_residual-in_err-parts.ensures (λ d h l.
+    let known = c.in_ok-p.ensures in
+    let has = h.equal in
+    let e : h.x ≡ c.in_ok-p.p.left = cc in
+    let f : h.y ≡ c.in_ok-p.p.right = cc in
+    c.in_err-parts.ensures h.p h.q
+    (subst (λ z. AreParts c.args.nodes.now c.in_ok-p.p.left z c.args.i h.p h.q) f
+    (subst (λ z. AreParts c.args.nodes.now z h.y c.args.i h.p h.q) e h.parts)))
