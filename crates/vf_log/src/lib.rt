@@ -1,0 +1,11 @@
+//! Logs of steps.
+//!
+//! A log begins with a question and is given steps one by one. Each derives something from the
+//! question and from earlier steps, and so a log that derives what cannot be ends in a refutation.
+#![tactic(auto)]
+
+mod log;
+#[cfg(test)]
+mod tests;
+
+pub use log::Log;
