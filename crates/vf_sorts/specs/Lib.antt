@@ -1,0 +1,4 @@
+pub mod Sorts
+pub mod Codes
+pub mod Unknowns
+pub mod Fillers
