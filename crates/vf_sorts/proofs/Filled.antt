@@ -1,10 +1,11 @@
 -- Filled sorts, head by head and row by row.
-use Rattle.std.proofs.Common.{◌≡◌, ◌≢◌, refl, ap, ap₂, ◌∙◌, sym, ℕ, Bool, List, [], ◌∷◌}
-use Rattle.std.specs.Prelude.{map}
+use Rattle.std.proofs.Common.{◌≡◌, ◌≢◌, ◌↔◌, ◌<◌, true, false, IsTrue, arith, refl, ap, ap₂, ◌∙◌, ℕ, Bool, List, [], ◌∷◌}
+use Rattle.std.specs.Prelude.{◌&&◌, map}
+use Rattle.std.proofs.lemmas.Bool.Decides.{nat_tests}
 use Rattle.vf_sorts.specs.declared.sort.Head.{Head}
 use Rattle.vf_sorts.specs.declared.sort.Head.TheVariants as heads
 use Rattle.vf_sorts.specs.Sorts.{Sort, Sorts, sort, no_sorts, and_sort, row}
-use Rattle.vf_sorts.specs.Unknowns.{Filling, headed, filled, filled_all, is_in_head, instance_of, instance, instances, any_sort, by_known, settling}
+use Rattle.vf_sorts.specs.Unknowns.{Filling, headed, filled, filled_all, is_in_head, numbered_in_head, numbered_below, all_numbered_below, IsBelow, EachUnknownOf, instance_of, instance, instances}
 
 -- a head that is no unknown sort stays
 pub head_filled : (f : Filling) (h : Head) (ts : Sorts) → ((u : ℕ) → h ≢ heads.Unknown u) → headed f h ts ≡ sort h ts
@@ -70,3 +71,36 @@ mutual
   pub all_filled_twice : (f g : Filling) (ts : Sorts) → filled_all g (filled_all f ts) ≡ filled_all (λ u. filled g (f u)) ts
   all_filled_twice f g no_sorts = refl
   all_filled_twice f g (and_sort t ts) = ap₂ and_sort (filled_twice f g t) (all_filled_twice f g ts)
+
+pub head_numbered : (n : ℕ) (h : Head) (b : Bool) → ((u : ℕ) → h ≢ heads.Unknown u) → numbered_in_head n h b ≡ b
+head_numbered n heads.Int b m = refl
+head_numbered n heads.Bool b m = refl
+head_numbered n heads.Pointer b m = refl
+head_numbered n heads.Real b m = refl
+head_numbered n heads.Any b m = refl
+head_numbered n (heads.Parameter i) b m = refl
+head_numbered n (heads.Unknown u) b m = absurd (m u refl)
+head_numbered n (heads.Datatype d) b m = refl
+head_numbered n heads.Predicate b m = refl
+
+both_told : (a b : Bool) (A B : Type 0) → (IsTrue a ↔ A) → (IsTrue b ↔ B) → IsTrue (a && b) ↔ (A × B)
+both_told true true A B p q = (λ e. (p.0 refl, q.0 refl), λ h. refl)
+both_told true false A B p q = (λ e. absurd cc, λ h. q.1 h.1)
+both_told false b A B p q = (λ e. absurd cc, λ h. p.1 h.0)
+
+mutual
+  -- numbers are below as they are tested to be
+  pub below_told : (n : ℕ) (s : Sort) → IsTrue (numbered_below n s) ↔ IsBelow n s
+  below_told n (sort heads.Int ts) = all_below_told n ts
+  below_told n (sort heads.Bool ts) = all_below_told n ts
+  below_told n (sort heads.Pointer ts) = all_below_told n ts
+  below_told n (sort heads.Real ts) = all_below_told n ts
+  below_told n (sort heads.Any ts) = all_below_told n ts
+  below_told n (sort (heads.Parameter i) ts) = all_below_told n ts
+  below_told n (sort (heads.Unknown u) ts) = (λ e. grind (arith, nat_tests), λ h. grind (arith, nat_tests))
+  below_told n (sort (heads.Datatype d) ts) = all_below_told n ts
+  below_told n (sort heads.Predicate ts) = all_below_told n ts
+
+  all_below_told : (n : ℕ) (ts : Sorts) → IsTrue (all_numbered_below n ts) ↔ EachUnknownOf (λ u. u < n) ts
+  all_below_told n no_sorts = (λ e. tt, λ h. refl)
+  all_below_told n (and_sort t ts) = both_told (numbered_below n t) (all_numbered_below n ts) (IsBelow n t) (EachUnknownOf (λ u. u < n) ts) (below_told n t) (all_below_told n ts)

@@ -1,2 +1,9 @@
 pub mod Rows
 pub mod Filled
+pub mod Agreeing
+pub mod Learning
+pub mod Occurring
+pub mod Weights
+pub mod Pairing
+pub mod Making
+pub mod Settling

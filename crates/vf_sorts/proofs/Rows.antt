@@ -1,6 +1,6 @@
 -- Lists of sorts as rows.
-use Rattle.std.proofs.Common.{◌≡◌, refl, ap, ap₂, List, [], ◌∷◌}
-use Rattle.vf_sorts.specs.Sorts.{Sort, Sorts, sort, no_sorts, and_sort, row}
+use Rattle.std.proofs.Common.{◌≡◌, refl, ap₂, List, [], ◌∷◌}
+use Rattle.vf_sorts.specs.Sorts.{Sort, row}
 
 -- rows of lists that are alike are lists that are alike
 pub row_told : (xs ys : List Sort) → row xs ≡ row ys → xs ≡ ys

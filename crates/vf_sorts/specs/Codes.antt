@@ -1,6 +1,6 @@
 -- How the logic stores a sort.
-use Rattle.std.proofs.Common.{◌≡◌, List, refl, ap}
-use Rattle.std.specs.Coded.{Coded, coded_list}
+use Rattle.std.proofs.Common.{◌≡◌, List, Option, refl, ap}
+use Rattle.std.specs.Coded.{Coded, coded_list, coded_option}
 use base.Stored.{Gv, gnil, gnum, gcons}
 use Rattle.vf_sorts.specs.contracts.sort.Head as head_row
 use Rattle.vf_sorts.specs.Sorts.{Sort, Sorts, sort, no_sorts, and_sort}
@@ -42,3 +42,7 @@ coded_sort = record { code = sort_code; inj = sort_inj }
 -- so does how a list of sorts is stored
 abbrev pub coded_sort_list : Coded (List Sort)
 coded_sort_list = coded_list coded_sort
+
+-- so does how what is known of unknown sorts is stored
+abbrev pub coded_known : Coded (List (Option Sort))
+coded_known = coded_list (coded_option coded_sort)

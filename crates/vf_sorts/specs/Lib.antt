@@ -2,3 +2,5 @@ pub mod Sorts
 pub mod Codes
 pub mod Unknowns
 pub mod Fillers
+pub mod Pairs
+pub mod Laws

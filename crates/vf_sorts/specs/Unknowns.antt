@@ -1,5 +1,5 @@
 -- Sorts that are not known yet, and what is known of them.
-use Rattle.std.specs.Prelude.{◌≡◌, ℕ, ◌+◌, ◌<◌, nat_eq, nat_lt, Bool, false, ◌||◌, if◌then◌else◌, List, [], ◌∷◌, Option, Some, None, slice_get, slice_set, map}
+use Rattle.std.specs.Prelude.{◌≡◌, ℕ, ◌+◌, ◌<◌, nat_eq, nat_lt, Bool, true, false, ◌&&◌, ◌||◌, if◌then◌else◌, List, Option, Some, None, slice_get, slice_set, map}
 use Rattle.std.specs.Option.{option_map}
 use Rattle.vf_sorts.specs.declared.sort.Head.{Head}
 use Rattle.vf_sorts.specs.declared.sort.Head.TheVariants as heads
@@ -71,6 +71,21 @@ abbrev mutual
 -- the unknown sorts in a sort have numbers below this
 abbrev pub IsBelow : ℕ → Sort → Type 0
 IsBelow n s = EachUnknown (λ u. u < n) s
+
+-- whether the unknown sort in a head has a number below this, or its parts have such
+abbrev pub numbered_in_head : ℕ → Head → Bool → Bool
+numbered_in_head n (heads.Unknown u) parts = nat_lt u n
+numbered_in_head n h parts = parts
+
+abbrev mutual
+  -- whether the unknown sorts in a sort have numbers below this
+  pub numbered_below : ℕ → Sort → Bool
+  numbered_below n (sort h ts) = numbered_in_head n h (all_numbered_below n ts)
+
+  -- the same of sorts in a row
+  pub all_numbered_below : ℕ → Sorts → Bool
+  all_numbered_below n no_sorts = true
+  all_numbered_below n (and_sort t ts) = numbered_below n t && all_numbered_below n ts
 
 -- nothing is known of the unknown sorts in a sort
 abbrev pub IsOpen : Known → Sort → Type 0

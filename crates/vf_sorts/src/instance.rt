@@ -21,10 +21,7 @@ pub fn instance(alloc: Global, first: usize, count: usize, sort: &Sort) -> Resul
             }
             Ok(Sort::leaf(alloc, Head::Parameter(number)))
         }
-        head => Ok(Sort::new(
-            head,
-            instances(alloc, first, count, &sort.parts)?,
-        )),
+        head => Ok(Sort::new(head, instances(alloc, first, count, &sort.parts)?)),
     }
 }
 

@@ -1,8 +1,8 @@
 //! Where unknown sorts stand.
 
-ghost use Rattle.std.specs.Prelude.{◌≡◌};
+ghost use Rattle.std.specs.Prelude.{◌≡◌, ◌↔◌, IsTrue};
 ghost use Rattle.vf_sorts.specs.Sorts.{row};
-ghost use Rattle.vf_sorts.specs.Unknowns.{is_in, is_in_some};
+ghost use Rattle.vf_sorts.specs.Unknowns.{IsBelow, all_numbered_below, is_in, is_in_some, numbered_below};
 
 use crate::sort::{Head, Sort, SortList};
 
@@ -29,4 +29,37 @@ fn is_in_some(number: usize, sorts: &SortList) -> bool
         }
     }
     false
+}
+
+/// Whether the unknown sorts in a sort have numbers below a count.
+#[cycle(numbered_below)]
+#[tactic(auto, using(crate::proofs::Filled::head_numbered))]
+fn numbered_below(count: usize, sort: &Sort) -> bool
+    ensures { result ≡ numbered_below count sort.now }
+{
+    match sort.head {
+        Head::Unknown(number) => number < count,
+        _ => all_numbered_below(count, &sort.parts),
+    }
+}
+
+/// The same of each of some sorts.
+#[cycle(numbered_below)]
+fn all_numbered_below(count: usize, sorts: &SortList) -> bool
+    ensures { result ≡ all_numbered_below count (row sorts.now) }
+{
+    for item in &sorts.items {
+        if !numbered_below(count, item) {
+            return false;
+        }
+    }
+    true
+}
+
+/// Whether the unknown sorts in a sort have numbers below a count.
+#[tactic(auto, using(crate::proofs::Filled::below_told))]
+pub fn is_below(count: usize, sort: &Sort) -> bool
+    ensures { IsTrue result ↔ IsBelow count sort.now }
+{
+    numbered_below(count, sort)
 }

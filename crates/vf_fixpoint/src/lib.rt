@@ -1,0 +1,15 @@
+//! Whether the equations of a fixpoint give it a value.
+//!
+//! A fixpoint that goes by a `switch` over one of its parameters has one case for each constructor of that
+//! parameter's datatype, and calls itself only with a component that the case gives names to. So each call goes to a
+//! smaller value, and the equations are those of one function. A fixpoint without a `switch` does not call itself.
+#![tactic(auto)]
+
+mod calls;
+mod cases;
+mod check;
+pub mod laws;
+#[cfg(test)]
+mod tests;
+
+pub use check::check_fixpoint;
