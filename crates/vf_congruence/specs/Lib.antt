@@ -1,2 +1,3 @@
 pub mod Congruence
 pub mod Meeting
+pub mod Explained

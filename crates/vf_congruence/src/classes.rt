@@ -1,13 +1,20 @@
 //! Classes of equal terms.
 
-ghost use Rattle.std.specs.Prelude.{◌≡◌, ℕ, ◌<◌, ◌^◌, ◌∷◌, [], ◌++◌, ◌↔◌, length, IsTrue, IfOk, OnOk, OnErr, slice_index};
+ghost use Rattle.std.specs.Prelude.{◌≡◌, ℕ, ◌<◌, ◌^◌, ◌∷◌, [], ◌++◌, ◌↔◌, length, IsTrue, IfOk, OnOk, OnErr, MatchOption, slice_index};
 ghost use Rattle.vf_table.specs.Tables.{PartsAreBelow};
+ghost use Rattle.vf_refute.specs.Refutations.{HasDerived};
+ghost use Rattle.vf_log.specs.Copies.{HaveSameTerms};
+ghost use Rattle.vf_log.specs.Derivations.{IsContinued};
 ghost use Rattle.vf_congruence.specs.Congruence.{Congruent, WereMerged};
+ghost use Rattle.vf_congruence.specs.Explained.{AreReasons};
 
+use crate::explaining::{derive_each, derive_from};
 use crate::joining::{join_and_settle, settle};
 use std::alloc::Global;
 use std::marker::Model;
 use vf_base::Memory;
+use vf_log::Log;
+use vf_refute::Derived;
 use vf_table::Node;
 
 /// Classes of equal terms of a table: those of the least congruence that has what was merged.
@@ -40,6 +47,44 @@ fn own_classes(alloc: Global, count: u32) -> Result<Vec<u32>, Memory>
         classes.push(i)?;
     }
     Ok(classes)
+}
+
+/// Derives that two terms are equal that are so by what was merged.
+fn derive(
+    alloc: Global,
+    log: &mut Log,
+    nodes: &[Node],
+    merged: &[(u32, u32)],
+    reasons: &[u32],
+    a: u32,
+    b: u32,
+) -> Result<u32, Memory>
+    requires nodes { HaveSameTerms nodes.now log.old.nodes }
+    requires parts { PartsAreBelow nodes.now (length nodes.now) }
+    requires few { length nodes.now < 2 ^ 32 }
+    requires terms { (x y : ℕ) → WereMerged merged.now x y → (x < length nodes.now) × (y < length nodes.now) }
+    requires reasons { AreReasons log.old.known merged.now reasons.now }
+    requires left { a < length nodes.now }
+    requires right { b < length nodes.now }
+    requires equal { Congruent nodes.now (WereMerged merged.now) a b }
+    ensures continued { IfOk result (λ _. IsContinued log.old log.new) }
+    ensures derived { IfOk result (λ s. HasDerived log.new.known s (Derived.AreEqual a b)) }
+{
+    let count = nodes.len() as u32;
+    let mut labels = own_classes(alloc, count)?;
+    let mut steps = derive_each(alloc, log, count)?;
+    let step = derive_from(
+        alloc,
+        log,
+        nodes,
+        &mut labels,
+        &mut steps,
+        merged,
+        reasons,
+        a,
+        b,
+    )?;
+    Ok(step)
 }
 
 impl Classes {
@@ -93,5 +138,30 @@ impl Classes {
         ensures { IsTrue result ↔ Congruent self.now.nodes (WereMerged self.now.merged) a b }
     {
         self.classes[a as usize] == self.classes[b as usize]
+    }
+
+    /// Derives that two terms are equal where they are so by what was merged, and answers the step;
+    /// none where they are not. The log is over the same terms, and for each pair that was merged it
+    /// has a step that says that the two are equal. After want of memory the log may have steps more, and is not used again.
+    pub fn why(
+        &self,
+        alloc: Global,
+        log: &mut Log,
+        reasons: &[u32],
+        a: u32,
+        b: u32,
+    ) -> Result<Option<u32>, Memory>
+        requires nodes { HaveSameTerms self.now.nodes log.old.nodes }
+        requires reasons { AreReasons log.old.known self.now.merged reasons.now }
+        requires left { a < length self.now.nodes }
+        requires right { b < length self.now.nodes }
+        ensures why { IfOk result (λ w. MatchOption w (Congruent self.now.nodes (WereMerged self.now.merged) a b → ⊥) (λ s. Congruent self.now.nodes (WereMerged self.now.merged) a b × HasDerived log.new.known s (Derived.AreEqual a b))) }
+        ensures continued { IfOk result (λ _. IsContinued log.old log.new) }
+    {
+        if !self.same(a, b) {
+            return Ok(None);
+        }
+        let step = derive(alloc, log, &self.nodes, &self.merged, reasons, a, b)?;
+        Ok(Some(step))
     }
 }

@@ -8,7 +8,7 @@ ghost use Rattle.vf_congruence.specs.Meeting.{AreTogether, PartsAreTogether, Sta
 use vf_table::{Node, have_one_head, is_injective};
 
 /// Whether the terms of two lists are in one class, place by place.
-fn parts_together(classes: &[u32], xs: &[u32], ys: &[u32]) -> bool
+pub fn parts_together(classes: &[u32], xs: &[u32], ys: &[u32]) -> bool
     requires left { All (λ x. x < length classes.now) xs.now }
     requires right { All (λ y. y < length classes.now) ys.now }
     ensures { IsTrue result ↔ PartsAreTogether classes.now xs.now ys.now }

@@ -6,6 +6,7 @@
 #![tactic(auto)]
 
 mod classes;
+mod explaining;
 mod joining;
 #[cfg(test)]
 mod tests;

@@ -2,7 +2,10 @@
 use Rattle.std.proofs.Common.{◌≡◌, ℕ, List, [], ◌∷◌, ◌++◌, length, Some, refl, sym, ◌∙◌, ap, subst, arith, length-append}
 use Rattle.std.proofs.lemmas.Option.{slice_get_within, get_or_from_slice_get, slice_get-get_or}
 use Rattle.std.proofs.lemmas.List.{get_or_append_left, get_or_push}
+use Rattle.std.proofs.Math.Decide.{ℕ_discrete}
+use Rattle.std.specs.Prelude.{slice_get, ◌+◌, ◌<◌}
 use Rattle.vf_table.specs.declared.node.Node.{Node}
+use Rattle.vf_log.specs.Copies.{IsCopy, HaveSameTerms}
 use Rattle.vf_refute.specs.declared.steps.Fact.{Fact}
 use Rattle.vf_refute.specs.declared.steps.Derived.{Derived}
 use Rattle.vf_refute.specs.declared.steps.Step.{Step}
@@ -21,13 +24,22 @@ module _ (nodes : List Node) (facts : List Fact) where
   refute_at_last (first ∷ next ∷ more) known after last h k = (h.0, h.1, h.2, refute_at_last (next ∷ more) (known ++ h.0 ∷ []) after last h.3 k)
 
 -- what a longer list has
-has_kept : (known : List Derived) (d e : Derived) (a : ℕ) → HasDerived known a e → HasDerived (known ++ d ∷ []) a e
-has_kept known d e a h =
-    let l = slice_get_within known a e h in
-    slice_get-get_or (known ++ d ∷ []) a e (simp length-append (omega arith)) ∙ ap Some (get_or_append_left known (d ∷ []) e a l ∙ get_or_from_slice_get known a e e h)
+pub has_kept : {X : Type 0} (xs : List X) (d e : X) (a : ℕ) → slice_get xs a ≡ Some e → slice_get (xs ++ d ∷ []) a ≡ Some e
+has_kept xs d e a h =
+    let l = slice_get_within xs a e h in
+    slice_get-get_or (xs ++ d ∷ []) a e (simp length-append (omega arith)) ∙ ap Some (get_or_append_left xs (d ∷ []) e a l ∙ get_or_from_slice_get xs a e e h)
 
-has_last : (known : List Derived) (d : Derived) (s : ℕ) → s ≡ length known → HasDerived (known ++ d ∷ []) s d
-has_last known d s e = slice_get-get_or (known ++ d ∷ []) s d (simp length-append (omega arith)) ∙ ap Some (get_or_push known d d s (sym e))
+pub has_last : {X : Type 0} (xs : List X) (d : X) (s : ℕ) → s ≡ length xs → slice_get (xs ++ d ∷ []) s ≡ Some d
+has_last xs d s e = slice_get-get_or (xs ++ d ∷ []) s d (simp length-append (omega arith)) ∙ ap Some (get_or_push xs d d s (sym e))
+
+-- one node more is copied
+pub copied_more : (nodes copies : List Node) (i : ℕ) (node copy : Node) → length copies ≡ i → slice_get nodes i ≡ Some node → IsCopy node copy →
+    ((a : ℕ) (n : Node) → a < i → slice_get nodes a ≡ Some n → (c : Node) × (slice_get copies a ≡ Some c) × IsCopy n c) →
+    (a : ℕ) (n : Node) → a < i + 1 → slice_get nodes a ≡ Some n → (c : Node) × (slice_get (copies ++ copy ∷ []) a ≡ Some c) × IsCopy n c
+copied_more nodes copies i node copy long found new all a n l e = elim (ℕ_discrete a i) [
+  | yes p ↦ (copy, has_last copies copy a (p ∙ sym long), let q : node ≡ n = let f = ap (slice_get nodes) p in cc in subst (λ (z : Node). IsCopy z copy) q new)
+  | no p ↦ let r = all a n (omega arith) e in (r.0, has_kept copies copy r.0 a r.1, r.2)
+]
 
 -- an added step derived what it says
 pub added_has : {before after : Derivation} {s : ℕ} {d : Derived} → HasAdded before after s d → HasDerived after.known s d
@@ -45,3 +57,6 @@ continued_none l = record { nodes = refl; facts = refl; kept = λ a d h. h }
 
 pub continued_more : {x y z : Derivation} → IsContinued x y → IsContinued y z → IsContinued x z
 continued_more h k = record { nodes = k.nodes ∙ h.nodes; facts = k.facts ∙ h.facts; kept = λ a d m. k.kept a d (h.kept a d m) }
+
+pub same_kept : {nodes : List Node} {before after : Derivation} → IsContinued before after → HaveSameTerms nodes before.nodes → HaveSameTerms nodes after.nodes
+same_kept {nodes = nodes} h k = subst (HaveSameTerms nodes) (sym h.nodes) k

@@ -4,8 +4,10 @@
 //! question and from earlier steps, and so a log that derives what cannot be ends in a refutation.
 #![tactic(auto)]
 
+mod copying;
 mod log;
 #[cfg(test)]
 mod tests;
 
+pub use copying::copy_table;
 pub use log::Log;
