@@ -5,3 +5,5 @@ pub mod Names
 pub mod Parts
 pub mod Typed
 pub mod Simple
+pub mod HasType
+pub mod Laws

@@ -6,6 +6,7 @@
 #![tactic(auto)]
 
 mod expr;
+pub mod laws;
 mod memory;
 mod name;
 mod operand;
