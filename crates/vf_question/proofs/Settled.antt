@@ -4,13 +4,13 @@ use Rattle.std.specs.Prelude.{ℤ, ◌-◌, Contains}
 use Rattle.std.proofs.lemmas.Bool.{false≢true, lt-ltb, ltb-true, ltb-false}
 use Rattle.std.proofs.lemmas.List.Elements.{Contains-append_left, Contains-append_cases}
 use Rattle.vf_closure.specs.Terms.{Constructor, Term, Terms, term, IsWithin}
-use Rattle.vf_closure.specs.Literals.{Literal, Equal, AtMost, Difference, compares}
+use Rattle.vf_closure.specs.Literals.{Literal, Equal, NotEqual, AtMost, Difference, NotDifference, False, compares}
 use Rattle.vf_closure.specs.Closure as T
-use Rattle.vf_closure.specs.Closure.{Unfoldings, no_unfoldings, Arises, asked, zero_arises, deeper, in_body, in_case, Same, unfolds, unfolds_case}
+use Rattle.vf_closure.specs.Closure.{Unfoldings, no_unfoldings, Arises, asked, zero_arises, deeper, in_body, in_case, Same, unfolds, unfolds_case, Conflict}
 use Rattle.vf_closure.specs.Made.{IsMade, AreAllMade}
 use Rattle.vf_closure.proofs.Enough.{unfoldings_enough}
 use Rattle.vf_question.specs.Numbered.{place, with_term, all_terms}
-use Rattle.vf_question.specs.Unfolded.{Unfolding, equations, is_in, least_depth, depth_of, IsAskedFor, of_body, of_case, IsKnown, in_question, in_unfolding, AreRight, IsNext, next_body, next_case, NextIsRight, WasMade, AreSettled, SettledIsEnough}
+use Rattle.vf_question.specs.Unfolded.{Unfolding, equations, is_in, least_depth, depth_of, IsAskedFor, of_body, of_case, IsKnown, in_question, in_unfolding, AreRight, IsNext, next_body, next_case, NextIsRight, RightIsSound, WasMade, AreSettled, SettledIsEnough}
 use Rattle.vf_question.proofs.Has.{Has, contains_has, has_contains, has_place, place_has, term_has, term_only}
 use Rattle.vf_question.proofs.Asked.{has_arising, term_arises, within_zero, within_through}
 
@@ -243,6 +243,13 @@ module _ (u : Unfoldings) (facts : List Literal) (made : List Unfolding) (right 
     bound_out (T.number_down h) = T.number_down (whole_arises h)
     bound_out (T.level i j h) = T.level i j (same_out h)
 
+  conflict_out : Conflict no_unfoldings (facts ++ equations made) → Conflict u facts
+  conflict_out (T.below_itself h) = T.below_itself (bound_out h)
+  conflict_out (T.clash n e) = T.clash n (same_out e)
+  conflict_out (T.denied_equality {a = a} {b = b} h e) = T.denied_equality (fact_out (NotEqual a b) (λ r. let k = r.is in cc) h) (same_out e)
+  conflict_out (T.denied_difference {x = x} {y = y} {c = c} h k l) = T.denied_difference (fact_out (NotDifference x y c) (λ r. let e = r.is in cc) h) (bound_out k) (bound_out l)
+  conflict_out (T.falsehood h) = T.falsehood (fact_out False (λ r. let e = r.is in cc) h)
+
   at_depth : (t : Term) (d : ℕ) → IsKnown facts made t → depth_of facts made t ≤ d → d < 4 → Arises u facts d t
   at_depth t d k l f = raise u facts t (d - depth_of facts made t) (depth_of facts made t) d (omega arith) (omega arith) (known_arises u facts made right t k)
 
@@ -267,3 +274,6 @@ next_right u facts made m right next = record {
   asked = λ k c. elim (Contains-append_cases made (m ∷ []) k c) [ inl h ↦ right.asked k h | inr h ↦ subst (IsAskedFor u facts) (only_one m k (contains_has (m ∷ []) k h)) (next_asked u facts made right m next) ];
   known = λ k c. elim (Contains-append_cases made (m ∷ []) k c) [ inl h ↦ known_more facts made m k.application (right.known k h) | inr h ↦ subst (λ (x : Unfolding). IsKnown facts (made ++ m ∷ []) x.application) (only_one m k (contains_has (m ∷ []) k h)) (known_more facts made m m.application (next_known u facts made right m next)) ];
 }
+
+pub right_sound : RightIsSound
+right_sound u facts made right h = conflict_out u facts made right h

@@ -69,3 +69,7 @@ SettledIsEnough =
 -- right unfoldings stay right with one that comes next
 abbrev pub NextIsRight : Type 0
 NextIsRight = (u : Unfoldings) (facts : List Literal) (made : List Unfolding) (m : Unfolding) → AreRight u facts made → IsNext u facts made m → AreRight u facts (made ++ m ∷ [])
+
+-- whatever right unfoldings were made, a conflict of the closure of facts and equations without unfolding is one of the closure with it
+abbrev pub RightIsSound : Type 0
+RightIsSound = (u : Unfoldings) (facts : List Literal) (made : List Unfolding) → AreRight u facts made → Conflict no_unfoldings (facts ++ equations made) → Conflict u facts

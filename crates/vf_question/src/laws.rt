@@ -1,6 +1,6 @@
 //! Laws of unfoldings. Each function does nothing; its contract is the law.
 
-ghost use Rattle.vf_question.specs.Unfolded.{SettledIsEnough, NextIsRight};
+ghost use Rattle.vf_question.specs.Unfolded.{SettledIsEnough, NextIsRight, RightIsSound};
 ghost use Rattle.vf_question.specs.Ends.{UnfoldingEnds};
 
 /// Where right unfoldings were made until nothing more is asked for, the closure with unfolding has
@@ -18,4 +18,10 @@ pub fn next_is_right()
 /// asked for.
 pub fn unfolding_ends()
     ensures { UnfoldingEnds }
+{}
+
+/// Whatever right unfoldings were made, a conflict of the closure of the facts and the equations, no
+/// fixpoint being unfolded, is one of the closure with unfolding.
+pub fn right_is_sound()
+    ensures { RightIsSound }
 {}

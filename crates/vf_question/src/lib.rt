@@ -1,4 +1,9 @@
-//! Questions over terms, as questions over a table of terms.
+//! Questions over terms, decided over a table of terms.
+//!
+//! The terms of a question's literals are numbered in their order, parts before wholes, each once, and
+//! the literals become facts over the numbers. The closure of these facts is decided by `vf_ground`,
+//! and the law of readings of `vf_reading` carries the answer back to the literals. How fixpoints are
+//! unfolded stands in `specs/`, with laws that say when enough was unfolded and why it ends.
 #![tactic(auto)]
 
 mod laws;
@@ -10,7 +15,7 @@ mod table;
 mod tests;
 mod verdict;
 
-pub use laws::{next_is_right, settled_is_enough, unfolding_ends};
+pub use laws::{next_is_right, right_is_sound, settled_is_enough, unfolding_ends};
 pub use numbering::MOST_TERMS;
 pub use plain::are_plain;
 pub use question::Question;
