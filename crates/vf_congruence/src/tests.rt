@@ -4,6 +4,7 @@ use crate::Classes;
 use std::alloc::Global;
 use std::test::Fail;
 use vf_base::Memory;
+use vf_log::{Log, copy_table};
 use vf_table::{Head, Node, parts_are_below};
 
 /// x, y, f(x), f(y), f(f(x)), nil, cons(x, nil), cons(y, nil), g(x).
@@ -89,5 +90,34 @@ fn the_table_is_kept(rt: HostRuntime) -> Result<(), Fail> {
     let classes = Classes::new(rt.alloc(), nodes)?;
     assert_eq!(rt; classes.size(), 9);
     assert_eq!(rt; classes.nodes().len(), 9);
+    Ok(())
+}
+
+/// How many steps derive that a term is equal to itself, none where a number is none of a term.
+#[tactic(auto, using(crate::proofs::Explained::no_reasons))]
+fn steps_to_itself(alloc: Global, a: u32) -> Result<Option<usize>, Memory> {
+    let nodes = terms(alloc)?;
+    if nodes.len() >= 4096 {
+        return Ok(None);
+    }
+    if !parts_are_below(&nodes) {
+        return Ok(None);
+    }
+    let copy = copy_table(alloc, &nodes)?;
+    let classes = Classes::new(alloc, nodes)?;
+    if a >= classes.size() {
+        return Ok(None);
+    }
+    let mut log = Log::new(alloc, copy, Vec::new(alloc));
+    match classes.why(alloc, &mut log, &[], a, a)? {
+        Some(_) => Ok(Some(log.known().len())),
+        None => Ok(None),
+    }
+}
+
+#[test]
+fn equalities_are_derived(rt: HostRuntime) -> Result<(), Fail> {
+    assert_eq!(rt; steps_to_itself(rt.alloc(), 4)?, Some(11));
+    assert_eq!(rt; steps_to_itself(rt.alloc(), 9)?, None);
     Ok(())
 }
