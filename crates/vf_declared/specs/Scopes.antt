@@ -8,6 +8,7 @@ use Rattle.vf_declared.specs.declared.declaration.Signature.{Signature}
 use Rattle.vf_declared.specs.declared.declaration.Structure.{Structure}
 use Rattle.vf_declared.specs.declared.declaration.Fields.{Fields}
 use Rattle.vf_declared.specs.declared.locals.Local.{Local}
+use Rattle.vf_declared.specs.declared.locals.Locals.{Locals}
 use Rattle.vf_declared.specs.declared.scope.Scope.{Scope}
 
 -- a number is one of some
@@ -43,9 +44,13 @@ abbrev pub joined : {A : Type 0} → Option (Option A) → Option A
 joined None = None
 joined (Some x) = x
 
+-- the local of a name among locals
+abbrev pub local_in : Locals → List ℕ → Option Local
+local_in l name = joined (at_name l.names l.meanings name)
+
 -- the local of a name
 abbrev pub local_of : Scope → List ℕ → Option Local
-local_of s name = joined (at_name s.locals.names s.locals.meanings name)
+local_of s name = local_in s.locals name
 
 -- what a declaration says in a file: nothing where it is not visible
 abbrev pub declared_in : Scope → ℕ → Option Declaration → Option Meaning

@@ -24,7 +24,7 @@ use Rattle.vf_typing.specs.Refusals.{refused}
 use Rattle.vf_typing.specs.Types.{choice_type, is_index, is_void, result_type}
 use Rattle.vf_typing.specs.Operands.{operand, value, if_typed, used, passes, assigned_refusal, takes_left, takes_right, joined, linked, prefixed, casts, cast, comparable, conditional, enclosed}
 use Rattle.vf_typing.specs.Names.{local_type, declared_type, written_type}
-use Rattle.vf_typing.specs.Parts.{struct_memory, int_memory, freed, field_found, indexed, element, called, count, call, parameters_of, returned, free_place}
+use Rattle.vf_typing.specs.Parts.{struct_memory, int_memory, freed, field_found, indexed, called, count, call, parameters_of, returned, free_place}
 use Rattle.vf_typing.specs.Typed.{typed, named, typed_links, typed_part, typed_parts, typed_postfix, refused_argument}
 use Rattle.vf_typing.specs.HasType.{is_null, links_null, parts_null, calls_free, HasType, LinksHaveType, PartHasType, PartsHaveType, ArePassed, IsFreed}
 use Rattle.vf_typing.specs.HasType as rule

@@ -28,7 +28,7 @@ use Rattle.vf_typing.specs.Refusals.{refused}
 use Rattle.vf_typing.specs.Types.{is_index, is_int, is_void, result_type}
 use Rattle.vf_typing.specs.Operands.{operand, value, if_typed, used, passes, assigned_refusal, takes_left, takes_right, joined, linked, negative, prefixed, casts, cast, comparable, conditional, enclosed}
 use Rattle.vf_typing.specs.Names.{local_type, declared_type, written_type}
-use Rattle.vf_typing.specs.Parts.{struct_memory, int_memory, free_place, freed, freed_type, field_found, field_behind, indexed, element, called, count, call, parameters_of, returned}
+use Rattle.vf_typing.specs.Parts.{struct_memory, int_memory, free_place, freed, freed_type, field_found, field_behind, indexed, called, count, call, parameters_of, returned}
 use Rattle.vf_typing.specs.Typed.{typed, named, typed_links, typed_parts, typed_postfix, typed_free, refused_argument}
 use Rattle.vf_typing.specs.HasType.{is_null, links_null, parts_null, calls_free, HasType, LinksHaveType, PartHasType, PartsHaveType, ArePassed, IsFreed}
 use Rattle.vf_typing.specs.HasType as rule
