@@ -1,3 +1,2 @@
 pub mod Lists
 pub mod Loops
-pub mod Changes

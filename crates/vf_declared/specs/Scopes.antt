@@ -1,10 +1,13 @@
 -- What names and tags mean at a place of a unit, and from which files.
 use Rattle.std.specs.Prelude.{ℕ, Bool, false, ◌||◌, nat_eq, if◌then◌else◌, List, [], ◌∷◌, Option, Some, None, is_some, slice_get}
 use Rattle.vf_names.specs.Names.{number_of}
+use Rattle.vf_sorts.specs.Sorts.{Sort}
 use Rattle.vf_declared.specs.declared.ctype.CType.{CType}
 use Rattle.vf_declared.specs.declared.declaration.Meaning.{Meaning}
 use Rattle.vf_declared.specs.declared.declaration.Declaration.{Declaration}
 use Rattle.vf_declared.specs.declared.declaration.Signature.{Signature}
+use Rattle.vf_declared.specs.declared.declaration.GhostDeclaration.{GhostDeclaration}
+use Rattle.vf_declared.specs.declared.declaration.Datatype.{Datatype}
 use Rattle.vf_declared.specs.declared.declaration.Structure.{Structure}
 use Rattle.vf_declared.specs.declared.declaration.Fields.{Fields}
 use Rattle.vf_declared.specs.declared.locals.Local.{Local}
@@ -39,14 +42,9 @@ abbrev pub is_visible : Scope → ℕ → List ℕ → Bool
 is_visible s from [] = false
 is_visible s from (file ∷ files) = sees s from file || is_visible s from files
 
--- what may be there, where it is there
-abbrev pub joined : {A : Type 0} → Option (Option A) → Option A
-joined None = None
-joined (Some x) = x
-
 -- the local of a name among locals
 abbrev pub local_in : Locals → List ℕ → Option Local
-local_in l name = joined (at_name l.names l.meanings name)
+local_in l name = at_name l.names l.meanings name
 
 -- the local of a name
 abbrev pub local_of : Scope → List ℕ → Option Local
@@ -113,3 +111,15 @@ signature_of s n = slice_get s.functions n
 -- what the functions of a function type give and take
 abbrev pub function_type_of : Scope → ℕ → Option Signature
 function_type_of s n = slice_get s.function_types n
+
+-- what annotations declare by a number
+abbrev pub ghost_of : Scope → ℕ → Option GhostDeclaration
+ghost_of s n = slice_get s.ghosts n
+
+-- a datatype by its number
+abbrev pub datatype_of : Scope → ℕ → Option Datatype
+datatype_of s n = slice_get s.datatypes n
+
+-- the sorts of the arguments of a predicate that stands later in the unit and is seen from a file
+abbrev pub later_predicate : Scope → List ℕ → ℕ → Option (List Sort)
+later_predicate s name from = if is_later_predicate s name from then at_name s.predicates s.predicate_sorts name else None

@@ -3,6 +3,7 @@
 use crate::ctype::CType;
 use vf_base::{NumberList, Sequence};
 use vf_names::Names;
+use vf_sorts::{Sort, SortList};
 
 /// What a name of file level means.
 #[derive(Clone, Copy, Debug, PartialEq, Eq)]
@@ -11,8 +12,8 @@ pub enum Meaning {
     Function(usize),
     /// A function type, by its number.
     FunctionType(usize),
-    /// Something that annotations alone may name.
-    Ghost,
+    /// Something that annotations alone may name, by its number.
+    Ghost(usize),
 }
 
 /// What a name of file level means, and the files in which it is declared.
@@ -42,4 +43,67 @@ pub struct Fields {
 pub struct Structure {
     pub files: NumberList,
     pub fields: Option<Fields>,
+}
+
+/// What annotations declare at file level.
+#[derive(Drop)]
+pub enum GhostDeclaration {
+    /// A datatype, by its number among the datatypes of the unit.
+    Datatype(usize),
+    /// A constructor of a datatype.
+    Constructor(Constructor),
+    /// A fixpoint.
+    Fixpoint(Fixpoint),
+    /// A predicate, by the sorts of its arguments.
+    Predicate(SortList),
+    /// A family of predicates.
+    Family(Family),
+    /// A predicate constructor.
+    PredicateConstructor(PredicateConstructor),
+    /// A lemma.
+    Lemma(Lemma),
+}
+
+/// A datatype: how many type parameters it has, and its constructors in order, by their numbers among the ghost
+/// declarations.
+#[derive(Drop)]
+pub struct Datatype {
+    pub parameters: usize,
+    pub constructors: NumberList,
+}
+
+/// A constructor: the number of its datatype, and the sorts of its arguments.
+#[derive(Drop)]
+pub struct Constructor {
+    pub datatype: usize,
+    pub arguments: SortList,
+}
+
+/// A fixpoint: how many type parameters it has, and the sorts of its arguments and of its result.
+#[derive(Drop)]
+pub struct Fixpoint {
+    pub parameters: usize,
+    pub arguments: SortList,
+    pub result: Sort,
+}
+
+/// A family of predicates: the sorts of its index and of its arguments.
+#[derive(Drop)]
+pub struct Family {
+    pub index: Sort,
+    pub arguments: SortList,
+}
+
+/// A predicate constructor: the sorts of what it is applied to, and of the arguments of the predicate that it makes.
+#[derive(Drop)]
+pub struct PredicateConstructor {
+    pub first: SortList,
+    pub second: SortList,
+}
+
+/// A lemma: how many type parameters it has, and the sorts of its arguments.
+#[derive(Drop)]
+pub struct Lemma {
+    pub parameters: usize,
+    pub arguments: SortList,
 }

@@ -2,14 +2,15 @@
 
 ghost use Rattle.std.specs.Prelude.{◌≡◌};
 ghost use Rattle.std.specs.Option.{option_copied};
-ghost use Rattle.vf_declared.specs.Scopes.{declaration_of, field_of, function_type_of, has_fields, is_declared, is_later_predicate, is_visible, local_of, sees, signature_of, tag_of};
+ghost use Rattle.vf_declared.specs.Scopes.{datatype_of, declaration_of, field_of, function_type_of, ghost_of, has_fields, is_declared, is_later_predicate, is_visible, later_predicate, local_of, sees, signature_of, tag_of};
 
 use crate::ctype::CType;
-use crate::declaration::{Declaration, Meaning, Signature, Structure};
+use crate::declaration::{Datatype, Declaration, GhostDeclaration, Meaning, Signature, Structure};
 use crate::locals::{Local, Locals};
 use crate::lookup::{at_name, has};
 use vf_base::{NumberList, Sequence, Text};
 use vf_names::Names;
+use vf_sorts::SortList;
 
 /// What is declared at a place of a unit.
 ///
@@ -34,6 +35,9 @@ pub struct Scope {
     pub predicates: Names,
     /// The files in which each of them stands.
     pub predicate_files: Sequence<NumberList>,
+    /// The sorts of the arguments of each of them, as far as they can be told before it is declared; `any` where they
+    /// can't.
+    pub predicate_sorts: Sequence<SortList>,
     /// The tags of structs.
     pub tags: Names,
     /// The struct of each tag.
@@ -42,6 +46,10 @@ pub struct Scope {
     pub functions: Sequence<Signature>,
     /// The function types, by their numbers.
     pub function_types: Sequence<Signature>,
+    /// What annotations declare, by numbers.
+    pub ghosts: Sequence<GhostDeclaration>,
+    /// The datatypes, by their numbers.
+    pub datatypes: Sequence<Datatype>,
 }
 
 impl Scope {
@@ -76,13 +84,10 @@ impl Scope {
     }
 
     /// The local of a name.
-    pub fn local(&self, name: &Text) -> Option<Local>
-        ensures { result ≡ local_of self.now name.now }
+    pub fn local(&self, name: &Text) -> Option<&Local>
+        ensures { option_copied result ≡ local_of self.now name.now }
     {
-        match at_name(&self.locals.names, &self.locals.meanings, name) {
-            Some(meaning) => *meaning,
-            None => None,
-        }
+        at_name(&self.locals.names, &self.locals.meanings, name)
     }
 
     /// What a name of file level means in a file.
@@ -171,5 +176,29 @@ impl Scope {
         ensures { option_copied result ≡ function_type_of self.now number }
     {
         self.function_types.get(number)
+    }
+
+    /// What annotations declare by a number.
+    pub fn ghost_declaration(&self, number: usize) -> Option<&GhostDeclaration>
+        ensures { option_copied result ≡ ghost_of self.now number }
+    {
+        self.ghosts.get(number)
+    }
+
+    /// A datatype by its number.
+    pub fn datatype(&self, number: usize) -> Option<&Datatype>
+        ensures { option_copied result ≡ datatype_of self.now number }
+    {
+        self.datatypes.get(number)
+    }
+
+    /// The sorts of the arguments of a predicate that stands later in the unit and is seen from a file.
+    pub fn later_predicate(&self, name: &Text, from: u32) -> Option<&SortList>
+        ensures { option_copied result ≡ later_predicate self.now name.now from }
+    {
+        if !self.is_later_predicate(name, from) {
+            return None;
+        }
+        at_name(&self.predicates, &self.predicate_sorts, name)
     }
 }

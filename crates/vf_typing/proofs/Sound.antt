@@ -75,13 +75,13 @@ declared_answer : (s : Scope) (p : Place) (x : List ℕ) (m : Option Meaning) �
 declared_answer s p x None h d = refused_
 declared_answer s p x (Some (meanings.Function n)) h d = has_ (rule.function h d)
 declared_answer s p x (Some (meanings.FunctionType n)) h d = refused_
-declared_answer s p x (Some meanings.Ghost) h d = refused_
+declared_answer s p x (Some (meanings.Ghost n)) h d = refused_
 
 -- a name
 name_answer : (s : Scope) (p : Place) (x : List ℕ) (l : Option Local) → local_of s x ≡ l → Answer s (tree.name_ p x) (named p (local_type s p x l))
 name_answer s p x None h = declared_answer s p x (declaration_of s x p.file) h refl
 name_answer s p x (Some (locals.Real t)) h = has_ (rule.local h)
-name_answer s p x (Some locals.Ghost) h = refused_
+name_answer s p x (Some (locals.Ghost g)) h = refused_
 
 -- in parentheses
 paren_answer : {s : Scope} {a : ExprTree} {r : Result Operand Refusal} (p : Place) → Answer s a r → Answer s (tree.parenthesized p a) (enclosed p r)

@@ -28,13 +28,13 @@ abbrev pub declared_type : Scope → Place → List ℕ → Option Meaning → R
 declared_type s p x None = Err (refused (if is_later_predicate s x p.file then rules.GhostInReal else rules.Name) p)
 declared_type s p x (Some (meanings.Function n)) = Ok (types.Function n)
 declared_type s p x (Some (meanings.FunctionType n)) = Err (refused rules.Typing p)
-declared_type s p x (Some meanings.Ghost) = Err (refused rules.GhostInReal p)
+declared_type s p x (Some (meanings.Ghost n)) = Err (refused rules.GhostInReal p)
 
 -- the type of a name that is that of a local, or of none
 abbrev pub local_type : Scope → Place → List ℕ → Option Local → Result CType Refusal
 local_type s p x None = declared_type s p x (declaration_of s x p.file)
 local_type s p x (Some (locals.Real t)) = Ok t
-local_type s p x (Some locals.Ghost) = Err (refused rules.GhostInReal p)
+local_type s p x (Some (locals.Ghost g)) = Err (refused rules.GhostInReal p)
 
 -- the type of a name at a place: a local hides a name of file level
 abbrev pub name_type : Scope → Place → List ℕ → Result CType Refusal
@@ -42,13 +42,13 @@ name_type s p x = local_type s p x (local_of s x)
 
 -- the rule by which a name is refused that is of no function type, where it may be that of a local
 abbrev pub no_function_type : Option Local → Place → Result CType Refusal
-no_function_type (Some locals.Ghost) p = Err (refused rules.GhostInReal p)
+no_function_type (Some (locals.Ghost g)) p = Err (refused rules.GhostInReal p)
 no_function_type l p = Err (refused rules.Name p)
 
 -- a pointer to what a name of file level means in a type: a function type, else the name is refused
 abbrev pub pointer_to : Scope → Place → List ℕ → Option Meaning → Result CType Refusal
 pointer_to s p x (Some (meanings.FunctionType n)) = Ok (types.FunctionPointer n)
-pointer_to s p x (Some meanings.Ghost) = Err (refused rules.GhostInReal p)
+pointer_to s p x (Some (meanings.Ghost n)) = Err (refused rules.GhostInReal p)
 pointer_to s p x m = no_function_type (local_of s x) p
 
 -- a pointer to a struct by its number, or a refusal of the tag

@@ -24,7 +24,7 @@ fn declared_type(
     match meaning {
         Some(Meaning::Function(number)) => Ok(CType::Function(number)),
         Some(Meaning::FunctionType(_)) => Err(refused(Rule::Typing, place)),
-        Some(Meaning::Ghost) => Err(refused(Rule::GhostInReal, place)),
+        Some(Meaning::Ghost(_)) => Err(refused(Rule::GhostInReal, place)),
         None => {
             if scope.is_later_predicate(name, place.file) {
                 Err(refused(Rule::GhostInReal, place))
@@ -40,8 +40,8 @@ pub fn name_type(scope: &Scope, place: Place, name: &Text) -> Result<CType, Refu
     ensures { result ≡ name_type scope.now place name.now }
 {
     match scope.local(name) {
-        Some(Local::Real(ctype)) => Ok(ctype),
-        Some(Local::Ghost) => Err(refused(Rule::GhostInReal, place)),
+        Some(Local::Real(ctype)) => Ok(*ctype),
+        Some(Local::Ghost(_)) => Err(refused(Rule::GhostInReal, place)),
         None => {
             let meaning = scope.declaration(name, place.file);
             declared_type(scope, place, name, meaning)

@@ -8,11 +8,12 @@ use vf_cursor::cursor::Cursor;
 use vf_cursor::fault::Stop;
 use vf_declared::ctype::CType;
 use vf_declared::declaration::{Declaration, Fields, Meaning, Signature, Structure};
-use vf_declared::locals::{Local, Locals};
+use vf_declared::locals::{GhostLocal, Local, Locals};
 use vf_declared::scope::Scope;
 use vf_lexer::lex;
 use vf_names::Names;
 use vf_parse_expression::expr::expr;
+use vf_sorts::{Head, Sort, SortList};
 
 const INT: CType = CType::Integer(IntType::Int);
 
@@ -63,10 +64,16 @@ fn locals(alloc: Global) -> Result<Locals, Stop> {
         ("o", Local::Real(O_POINTER)),
         ("w", Local::Real(CType::VoidPointer)),
         ("h", Local::Real(FN_POINTER)),
-        ("z", Local::Ghost),
+        (
+            "z",
+            Local::Ghost(GhostLocal {
+                is_variable: true,
+                sort: Sort::leaf(alloc, Head::Int),
+            }),
+        ),
     ] {
         names.put(name.as_bytes())?;
-        meanings.push(Some(local))?;
+        meanings.push(local)?;
     }
     Ok(Locals { names, meanings })
 }
@@ -134,7 +141,7 @@ fn declarations(alloc: Global) -> Result<(Names, Sequence<Declaration>), Stop> {
         ("g", Meaning::Function(0)),
         ("k", Meaning::Function(1)),
         ("t", Meaning::Function(2)),
-        ("p", Meaning::Ghost),
+        ("p", Meaning::Ghost(0)),
     ] {
         names.put(name.as_bytes())?;
         declarations.push(Declaration {
@@ -152,6 +159,8 @@ fn scope(alloc: Global, has_stdlib: bool, has_arrays: bool) -> Result<Scope, Sto
     predicates.put("late".as_bytes())?;
     let mut predicate_files = Sequence::new(alloc);
     predicate_files.push(only(alloc, 1)?)?;
+    let mut predicate_sorts = Sequence::new(alloc);
+    predicate_sorts.push(SortList::new(alloc))?;
     let mut tags = Names::new(alloc);
     tags.put("s".as_bytes())?;
     tags.put("o".as_bytes())?;
@@ -171,10 +180,13 @@ fn scope(alloc: Global, has_stdlib: bool, has_arrays: bool) -> Result<Scope, Sto
         declarations: declared,
         predicates,
         predicate_files,
+        predicate_sorts,
         tags,
         structures: structures(alloc)?,
         functions: functions(alloc)?,
         function_types,
+        ghosts: Sequence::new(alloc),
+        datatypes: Sequence::new(alloc),
     })
 }
 

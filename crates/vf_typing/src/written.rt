@@ -1,5 +1,6 @@
 //! Types as they are written.
 
+ghost use Rattle.std.specs.Option.{option_copied};
 ghost use Rattle.std.specs.Prelude.{◌≡◌};
 ghost use Rattle.vf_typing.specs.Names.{form_type, integer_type, no_function_type, pointer_to, signed_width, struct_pointer, unsigned_width, written_type};
 
@@ -51,11 +52,11 @@ fn integer_type(words: IntegerWords) -> IntType
 }
 
 /// The refusal of a name that is of no function type, where it may be that of a local.
-fn no_function_type(local: Option<Local>, place: Place) -> Result<CType, Refusal>
-    ensures { result ≡ no_function_type local place }
+fn no_function_type(local: Option<&Local>, place: Place) -> Result<CType, Refusal>
+    ensures { result ≡ no_function_type (option_copied local) place }
 {
     match local {
-        Some(Local::Ghost) => Err(refused(Rule::GhostInReal, place)),
+        Some(Local::Ghost(_)) => Err(refused(Rule::GhostInReal, place)),
         _ => Err(refused(Rule::Name, place)),
     }
 }
@@ -71,7 +72,7 @@ fn pointer_to(
 {
     match meaning {
         Some(Meaning::FunctionType(number)) => Ok(CType::FunctionPointer(number)),
-        Some(Meaning::Ghost) => Err(refused(Rule::GhostInReal, place)),
+        Some(Meaning::Ghost(_)) => Err(refused(Rule::GhostInReal, place)),
         _ => no_function_type(scope.local(name), place),
     }
 }
