@@ -1,16 +1,15 @@
 -- How the numbers of names go on when one more comes.
-use Rattle.std.proofs.Common.{◌≡◌, ℕ, ◌+◌, zero, suc, arith, refl, sym, ap, subst, ◌∙◌, cond, Bool, true, false, List, [], ◌∷◌, ◌++◌, length, slice_get, Option, Some, None, IfSome, Result, Ok, Err, IfOk, OnOk}
+use Rattle.std.proofs.Common.{◌≡◌, ℕ, ◌+◌, suc, arith, refl, sym, ap, subst, ◌∙◌, cond, Bool, true, false, List, [], ◌∷◌, ◌++◌, length, slice_get, Option, Some, None, IfSome, Result, Ok, Err, IfOk, OnOk}
 use Rattle.std.specs.List.{position_from}
 use Rattle.std.specs.Str.{bytes_eq}
-use Rattle.std.specs.Map.{KeepsOthers, IsKeyTest, AreApart, lookup}
+use Rattle.std.specs.Map.{KeepsOthers, lookup}
 use Rattle.std.specs.BTreeMap.{BTreeMap, UpdatesBy, get_by}
 use Rattle.std.specs.Ordering.{nat_cmp, is_eq, eq_by_cmp}
 use Rattle.std.specs.Cmp.{eq_by_cmp_equiv}
 use Rattle.std.specs.Cmp.Lexicographic.{slice_cmp, nat_list_cmp_total, bytes_decides, nat_list_eq_equiv}
 use Rattle.std.specs.Global.{Vec}
 use Rattle.std.proofs.lemmas.Map.Text.{is_eq-slice_cmp}
-use Rattle.std.proofs.lemmas.Bool.{cases_Bool, cond-true, cond-false}
-use Rattle.vf_names.specs.Names.{number_of, put}
+use Rattle.vf_names.specs.Names.{number_of}
 use Rattle.vf_names.specs.Kept.{Numbers}
 
 -- behind a test that answers first, an answer stays
@@ -112,3 +111,74 @@ Numbers-push names key name n old new is last none kept h = record { found = λ 
 pub number_put : {E : Type 0} (r : Result ℕ E) (old new : List (List ℕ)) (name : List ℕ) → number_of old name ≡ None → IfOk r (λ n. n ≡ length old) → OnOk r (new ≡ old ++ name ∷ []) → IfOk r (λ n. number_of new name ≡ Some n)
 number_put (Ok n) old new name none is made = ap (λ names. number_of names name) made ∙ number_of-push old name none ∙ ap Some (sym is)
 number_put (Err e) old new name none is made = tt
+
+-- the end of a list has no item
+no_end : {A : Type 0} (xs : List A) → slice_get xs (length xs) ≡ None
+no_end [] = refl
+no_end (x ∷ xs) = no_end xs
+
+-- a name whose number is that of the last place stands nowhere before it
+pub number_of-last : (kept : List (List ℕ)) (name : List ℕ) → number_of (kept ++ name ∷ []) name ≡ Some (length kept) → number_of kept name ≡ None
+number_of-last kept name h = by_number (number_of kept name) refl
+  where
+    by_number : (o : Option ℕ) → number_of kept name ≡ o → number_of kept name ≡ None
+    by_number None e = e
+    by_number (Some n) e =
+        let whole : number_of (kept ++ name ∷ []) name ≡ Some n = found-push (bytes_eq name) 0 kept name n e in
+        let end : n ≡ length kept = cc in
+        let there_ : slice_get kept n ≡ Some name = name_there kept name n e in
+        let none : slice_get kept n ≡ None = ap (λ k. slice_get kept k) end ∙ no_end kept in
+        absurd cc
+
+-- a name whose number is another stands before the last place
+pub number_of-before : (kept : List (List ℕ)) (name : List ℕ) (o : Option ℕ) → number_of (kept ++ name ∷ []) name ≡ o → (o ≡ Some (length kept) → ⊥) → number_of kept name ≡ o
+number_of-before kept name o h other = by_number (number_of kept name) refl
+  where
+    by_number : (p : Option ℕ) → number_of kept name ≡ p → number_of kept name ≡ o
+    by_number None e = absurd (other (sym h ∙ number_of-push kept name e))
+    by_number (Some n) e = e ∙ sym (found-push (bytes_eq name) 0 kept name n e) ∙ h
+
+-- the map without the last name, where its number is that of the last place
+pub Numbers-pop : (names : List (List ℕ)) (kept : List (List ℕ)) (name : List ℕ) (old new : BTreeMap (Vec ℕ) ℕ) → names ≡ kept ++ name ∷ [] → Numbers names old
+    → get_by (λ (k : Vec ℕ). slice_cmp nat_cmp name k.items) old ≡ Some (length kept)
+    → UpdatesBy (λ (x y : Vec ℕ). slice_cmp nat_cmp x.items y.items) (λ (k : Vec ℕ). slice_cmp nat_cmp name k.items) old new None
+    → Numbers kept new
+Numbers-pop names kept name old new whole is last h = record { found = λ q. by_name q (bytes_eq name q) refl }
+  where
+    number : number_of (kept ++ name ∷ []) name ≡ Some (length kept)
+    number = sym (ap (λ ns. number_of ns name) whole) ∙ sym (is.found name) ∙ last
+
+    by_name : (q : List ℕ) (b : Bool) → bytes_eq name q ≡ b → get_by (λ (k : Vec ℕ). slice_cmp nat_cmp q k.items) new ≡ number_of kept q
+    by_name q true e =
+        let same : name ≡ q = (bytes_decides name q).0 e in
+        subst (λ m. get_by (λ (k : Vec ℕ). slice_cmp nat_cmp m k.items) new ≡ number_of kept m) same (h.1 ∙ sym (number_of-last kept name number))
+    by_name q false e =
+        let apart_back : bytes_eq q name ≡ false = nat_list_eq_equiv.symm q name ∙ e in
+        others_stay name q old.entries new.entries e h.3 ∙ is.found q ∙ ap (λ ns. number_of ns q) whole ∙ number_of-push_other kept name q apart_back
+
+-- the same map without the last name, where an earlier place has the name too
+pub Numbers-pop_other : (names : List (List ℕ)) (kept : List (List ℕ)) (name : List ℕ) (old : BTreeMap (Vec ℕ) ℕ) → names ≡ kept ++ name ∷ [] → Numbers names old
+    → (get_by (λ (k : Vec ℕ). slice_cmp nat_cmp name k.items) old ≡ Some (length kept) → ⊥)
+    → Numbers kept old
+Numbers-pop_other names kept name old whole is other = record { found = λ q. by_name q (bytes_eq name q) refl }
+  where
+    by_name : (q : List ℕ) (b : Bool) → bytes_eq name q ≡ b → get_by (λ (k : Vec ℕ). slice_cmp nat_cmp q k.items) old ≡ number_of kept q
+    by_name q true e =
+        let same : name ≡ q = (bytes_decides name q).0 e in
+        let number : number_of (kept ++ name ∷ []) name ≡ get_by (λ (k : Vec ℕ). slice_cmp nat_cmp name k.items) old = sym (ap (λ ns. number_of ns name) whole) ∙ sym (is.found name) in
+        subst (λ m. get_by (λ (k : Vec ℕ). slice_cmp nat_cmp m k.items) old ≡ number_of kept m) same (sym (number_of-before kept name _ number other))
+    by_name q false e =
+        let apart_back : bytes_eq q name ≡ false = nat_list_eq_equiv.symm q name ∙ e in
+        is.found q ∙ ap (λ ns. number_of ns q) whole ∙ number_of-push_other kept name q apart_back
+
+-- the same map with a name at the end that is there already
+pub Numbers-push_again : (names : List (List ℕ)) (name : List ℕ) (n : ℕ) (numbers : BTreeMap (Vec ℕ) ℕ) → number_of names name ≡ Some n → Numbers names numbers → Numbers (names ++ name ∷ []) numbers
+Numbers-push_again names name n numbers known is = record { found = λ q. by_name q (bytes_eq name q) refl }
+  where
+    by_name : (q : List ℕ) (b : Bool) → bytes_eq name q ≡ b → get_by (λ (k : Vec ℕ). slice_cmp nat_cmp q k.items) numbers ≡ number_of (names ++ name ∷ []) q
+    by_name q true e =
+        let same : name ≡ q = (bytes_decides name q).0 e in
+        subst (λ m. get_by (λ (k : Vec ℕ). slice_cmp nat_cmp m k.items) numbers ≡ number_of (names ++ name ∷ []) m) same (is.found name ∙ known ∙ sym (found-push (bytes_eq name) 0 names name n known))
+    by_name q false e =
+        let apart_back : bytes_eq q name ≡ false = nat_list_eq_equiv.symm q name ∙ e in
+        is.found q ∙ sym (number_of-push_other names name q apart_back)

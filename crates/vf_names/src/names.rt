@@ -1,6 +1,6 @@
 //! Names with numbers.
 
-ghost use Rattle.std.specs.Prelude.{◌≡◌, [], ◌∷◌, ◌++◌, length, Some, None, IfSome, IfOk, OnOk, OnErr, slice_get};
+ghost use Rattle.std.specs.Prelude.{◌≡◌, ◌+◌, ◌-◌, ◌<◌, [], ◌∷◌, ◌++◌, length, take, drop, Some, None, IfSome, IfOk, OnOk, OnErr, slice_get};
 ghost use Rattle.std.specs.Option.{option_map};
 ghost use Rattle.vf_names.specs.Names.{number_of, put};
 
@@ -107,4 +107,86 @@ impl Names {
             }
         }
     }
+
+    /// Puts a name to the end, whether it is there already or not; a name that is keeps its number.
+    ///
+    /// Where there is no memory for it, the names stay as they were.
+    pub fn push(&mut self, name: &[u8]) -> Result<(), Memory>
+        ensures pushed { OnOk result (self.new ≡ self.old ++ name.now ∷ []) }
+        ensures unchanged { OnErr result (self.new ≡ self.old) }
+    {
+        match self.number(name) {
+            Some(number) => self.push_again(name, number),
+            None => {
+                let _number = self.put_new(name)?;
+                Ok(())
+            }
+        }
+    }
+
+    /// Puts a name to the end that is there already.
+    fn push_again(&mut self, name: &[u8], number: usize) -> Result<(), Memory>
+        requires { number_of self.old name.now ≡ Some number }
+        ensures pushed { OnOk result (self.new ≡ self.old ++ name.now ∷ []) }
+        ensures unchanged { OnErr result (self.new ≡ self.old) }
+    {
+        let again = Text::from_bytes(self.alloc, name)?;
+        self.names.push(again)?;
+        Ok(())
+    }
+
+    /// Keeps the first names, as many as a count says; a name that goes has no number from then on.
+    pub fn truncate(&mut self, count: usize)
+        ensures { self.new ≡ take count self.old }
+    {
+        while count < self.names.len() {
+            self.drop_last();
+        }
+    }
+
+    /// Takes the last name away, and its number where no earlier place has the name.
+    fn drop_last(&mut self)
+        requires { 0 < length self.old }
+        ensures { self.new ≡ take (length self.old - 1) self.old }
+    {
+        let Some(name) = self.names.pop() else {
+            return;
+        };
+        if self.numbers.get(name.as_bytes()).copied() == Some(self.names.len()) {
+            let _number = self.numbers.remove(name.as_bytes());
+        }
+    }
+
+    /// Takes the name with a number away, if there is one; each name behind it has a number that is one less.
+    pub fn remove(&mut self, number: usize) -> Result<(), Memory>
+        ensures { OnOk result (self.new ≡ take number self.old ++ drop (number + 1) self.old) }
+    {
+        if self.names.len() <= number {
+            return Ok(());
+        }
+        let behind = copies(self.alloc, &self.names.as_slice()[number + 1..])?;
+        self.truncate(number);
+        self.push_all(behind.as_slice())
+    }
+
+    /// Puts some names to the end.
+    fn push_all(&mut self, names: &[Text]) -> Result<(), Memory>
+        ensures { OnOk result (self.new ≡ self.old ++ names.now) }
+    {
+        for at in 0..names.len() {
+            self.push(names[at].as_bytes())?;
+        }
+        Ok(())
+    }
+}
+
+/// The same names again.
+fn copies(alloc: Global, names: &[Text]) -> Result<Vec<Text>, Memory>
+    ensures { IfOk result (λ same. same.items ≡ names.now) }
+{
+    let mut same = Vec::with_capacity(alloc, names.len())?;
+    for at in 0..names.len() {
+        same.push(names[at].copy()?)?;
+    }
+    Ok(same)
 }

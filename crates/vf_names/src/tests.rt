@@ -22,3 +22,22 @@ fn numbers(rt: HostRuntime) -> Result<(), Fail> {
     assert_eq!(rt; names.as_slice().len(), 4);
     Ok(())
 }
+
+#[test]
+fn forgets(rt: HostRuntime) -> Result<(), Fail> {
+    let mut names = Names::new(rt.alloc());
+    for name in ["a", "b", "a", "c", "b"] {
+        assert!(rt; names.push(name.as_bytes()).is_ok());
+    }
+    assert_eq!(rt; names.len(), 5);
+    assert!(rt; names.remove(1).is_ok());
+    for (name, number) in [("a", Some(0)), ("b", Some(3)), ("c", Some(2))] {
+        assert_eq!(rt; names.number(name.as_bytes()), number, "at {name}");
+    }
+    names.truncate(2);
+    for (name, number) in [("a", Some(0)), ("b", None), ("c", None)] {
+        assert_eq!(rt; names.number(name.as_bytes()), number, "at {name}");
+    }
+    assert_eq!(rt; names.put(b"c".as_slice()), Ok(2));
+    Ok(())
+}

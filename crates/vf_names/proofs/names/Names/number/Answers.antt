@@ -1,4 +1,4 @@
-use Rattle.std.proofs.Common.{◌≡◌, ℕ, Option, rules}
+use Rattle.std.proofs.Common.{◌≡◌, rules}
 use Rattle.vf_names.specs.Names.{number_of}
 use Rattle.vf_names.proofs.Numbering.{there}
 use Rattle.vf_names.proofs.names.Names.number.Goals as goal

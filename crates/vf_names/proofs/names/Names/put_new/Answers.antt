@@ -1,4 +1,4 @@
-use Rattle.std.proofs.Common.{rules, ◌≡◌, None, Some, [], ◌∷◌, ◌++◌, length, ap, ◌∙◌, sym, subst}
+use Rattle.std.proofs.Common.{rules, ◌≡◌, None, [], ◌∷◌, ◌++◌, length, ap, ◌∙◌, sym, subst}
 use Rattle.vf_names.specs.Names.{number_of}
 use Rattle.vf_names.specs.Kept.{Numbers}
 use Rattle.vf_names.proofs.Numbering.{Numbers-push}
