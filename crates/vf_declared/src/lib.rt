@@ -9,3 +9,4 @@ pub mod declaration;
 pub mod locals;
 pub mod lookup;
 pub mod scope;
+pub mod stack;

@@ -3,11 +3,12 @@
 ghost use Rattle.std.specs.Prelude.{◌≡◌, ℕ, List, None, IfOk, OnOk};
 ghost use Rattle.vf_names.specs.Names.{number_of};
 ghost use Rattle.vf_declared.specs.Scopes.{local_in};
-ghost use Rattle.vf_declared.specs.Changes.{IsAligned, with_local};
+ghost use Rattle.vf_declared.specs.Changes.{IsAligned, first_locals, with_local, without_local};
 
 use crate::ctype::CType;
+use crate::stack::Stack;
 use std::alloc::Global;
-use vf_base::{Memory, Sequence};
+use vf_base::Memory;
 use vf_names::Names;
 use vf_sorts::Sort;
 
@@ -32,7 +33,7 @@ pub struct GhostLocal {
 #[derive(Drop)]
 pub struct Locals {
     pub names: Names,
-    pub meanings: Sequence<Local>,
+    pub meanings: Stack<Local>,
 }
 
 impl Locals {
@@ -43,7 +44,7 @@ impl Locals {
     {
         Locals {
             names: Names::new(alloc),
-            meanings: Sequence::new(alloc),
+            meanings: Stack::new(alloc),
         }
     }
 
@@ -54,6 +55,23 @@ impl Locals {
     {
         self.names.put(name)?;
         self.meanings.push(local)?;
+        Ok(())
+    }
+
+    /// Keeps the first locals, as many as a count says: those that were there when a block was entered.
+    pub fn leave(&mut self, count: usize)
+        ensures { self.new ≡ first_locals self.old count }
+    {
+        self.names.truncate(count);
+        self.meanings.truncate(count);
+    }
+
+    /// Takes the local at an index away, if there is one; those declared behind it stay.
+    pub fn remove(&mut self, at: usize) -> Result<(), Memory>
+        ensures { OnOk result (self.new ≡ without_local self.old at) }
+    {
+        self.names.remove(at)?;
+        self.meanings.remove(at);
         Ok(())
     }
 }

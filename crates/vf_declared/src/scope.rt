@@ -87,7 +87,8 @@ impl Scope {
     pub fn local(&self, name: &Text) -> Option<&Local>
         ensures { option_copied result ≡ local_of self.now name.now }
     {
-        at_name(&self.locals.names, &self.locals.meanings, name)
+        let number = self.locals.names.number(name.as_bytes())?;
+        self.locals.meanings.get(number)
     }
 
     /// What a name of file level means in a file.

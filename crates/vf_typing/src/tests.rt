@@ -10,6 +10,7 @@ use vf_declared::ctype::CType;
 use vf_declared::declaration::{Declaration, Fields, Meaning, Signature, Structure};
 use vf_declared::locals::{GhostLocal, Local, Locals};
 use vf_declared::scope::Scope;
+use vf_declared::stack::Stack;
 use vf_lexer::lex;
 use vf_names::Names;
 use vf_parse_expression::expr::expr;
@@ -52,7 +53,7 @@ fn only(alloc: Global, file: u64) -> Result<NumberList, Stop> {
 /// `int i; long l; bool b; char c; unsigned int u; int *q; struct s *s; struct o *o; void *w; fn *h;` and a ghost z.
 fn locals(alloc: Global) -> Result<Locals, Stop> {
     let mut names = Names::new(alloc);
-    let mut meanings = Sequence::new(alloc);
+    let mut meanings = Stack::new(alloc);
     for (name, local) in [
         ("i", Local::Real(INT)),
         ("l", Local::Real(LONG)),
