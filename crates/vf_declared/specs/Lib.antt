@@ -1,3 +1,4 @@
 pub mod Types
 pub mod Scopes
 pub mod Changes
+pub mod Writing

@@ -1,6 +1,7 @@
 //! Declarations at file level.
 
 use crate::ctype::CType;
+use crate::locals::Locals;
 use vf_base::{NumberList, Sequence};
 use vf_names::Names;
 use vf_sorts::{Sort, SortList};
@@ -38,11 +39,21 @@ pub struct Fields {
     pub types: Sequence<CType>,
 }
 
-/// A struct: the files in which it is declared, and its fields where these are declared.
+/// A struct: the files in which it is declared, its fields where these are declared, and whether it is declared
+/// without them.
 #[derive(Drop)]
 pub struct Structure {
     pub files: NumberList,
     pub fields: Option<Fields>,
+    pub is_opaque: bool,
+}
+
+/// What a function is declared with so far: the locals behind its prototype, where it has one, which are its
+/// parameters and the names of its precondition; and whether it has a body.
+#[derive(Drop)]
+pub struct Sides {
+    pub prototype: Option<Locals>,
+    pub is_defined: bool,
 }
 
 /// What annotations declare at file level.

@@ -10,3 +10,4 @@ pub mod locals;
 pub mod lookup;
 pub mod scope;
 pub mod stack;
+pub mod writing;

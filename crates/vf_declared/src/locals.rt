@@ -29,6 +29,24 @@ pub struct GhostLocal {
     pub sort: Sort,
 }
 
+impl Local {
+    /// The same local again.
+    fn copy(&self, alloc: Global) -> Result<Local, Memory>
+        ensures { IfOk result (λ local. local ≡ self.now) }
+    {
+        match self {
+            Local::Real(ctype) => Ok(Local::Real(*ctype)),
+            Local::Ghost(local) => {
+                let sort = local.sort.copy(alloc)?;
+                Ok(Local::Ghost(GhostLocal {
+                    is_variable: local.is_variable,
+                    sort,
+                }))
+            }
+        }
+    }
+}
+
 /// The names of the locals that are visible, the innermost last, and in the same order what each means.
 #[derive(Drop)]
 pub struct Locals {
@@ -74,4 +92,28 @@ impl Locals {
         self.meanings.remove(at);
         Ok(())
     }
+
+    /// The same locals again.
+    pub fn copy(&self, alloc: Global) -> Result<Locals, Memory>
+        ensures { IfOk result (λ locals. locals ≡ self.now) }
+    {
+        let names = self.names.copy()?;
+        let meanings = copies(alloc, &self.meanings)?;
+        Ok(Locals { names, meanings })
+    }
+}
+
+/// The same meanings again.
+#[tactic(auto, using(crate::proofs::Lists::taken_more, crate::proofs::Lists::taken_all))]
+fn copies(alloc: Global, meanings: &Stack<Local>) -> Result<Stack<Local>, Memory>
+    ensures { IfOk result (λ same. same ≡ meanings.now) }
+{
+    let mut same = Stack::new(alloc);
+    for at in 0..meanings.len() {
+        let Some(local) = meanings.get(at) else {
+            return Ok(same);
+        };
+        same.push(local.copy(alloc)?)?;
+    }
+    Ok(same)
 }

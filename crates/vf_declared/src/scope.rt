@@ -5,9 +5,12 @@ ghost use Rattle.std.specs.Option.{option_copied};
 ghost use Rattle.vf_declared.specs.Scopes.{datatype_of, declaration_of, field_of, function_type_of, ghost_of, has_fields, is_declared, is_later_predicate, is_visible, later_predicate, local_of, sees, signature_of, tag_of};
 
 use crate::ctype::CType;
-use crate::declaration::{Datatype, Declaration, GhostDeclaration, Meaning, Signature, Structure};
+use crate::declaration::{
+    Datatype, Declaration, GhostDeclaration, Meaning, Sides, Signature, Structure,
+};
 use crate::locals::{Local, Locals};
 use crate::lookup::{at_name, has};
+use crate::stack::Stack;
 use vf_base::{NumberList, Sequence, Text};
 use vf_names::Names;
 use vf_sorts::SortList;
@@ -21,6 +24,8 @@ pub struct Scope {
     pub file: u32,
     /// For each file by its number, the headers that it includes, directly or through others.
     pub headers: Sequence<NumberList>,
+    /// The numbers of the files that are preludes.
+    pub preludes: NumberList,
     /// Whether `<stdlib.h>` is in the unit.
     pub has_stdlib: bool,
     /// Whether `<vf_arrays.h>` is in the unit.
@@ -30,7 +35,7 @@ pub struct Scope {
     /// The names of file level.
     pub names: Names,
     /// What each of them means.
-    pub declarations: Sequence<Declaration>,
+    pub declarations: Stack<Declaration>,
     /// The names of the predicates that stand anywhere in the unit.
     pub predicates: Names,
     /// The files in which each of them stands.
@@ -41,9 +46,11 @@ pub struct Scope {
     /// The tags of structs.
     pub tags: Names,
     /// The struct of each tag.
-    pub structures: Sequence<Structure>,
+    pub structures: Stack<Structure>,
     /// The functions, by their numbers.
     pub functions: Sequence<Signature>,
+    /// What each of them is declared with so far.
+    pub sides: Stack<Sides>,
     /// The function types, by their numbers.
     pub function_types: Sequence<Signature>,
     /// What annotations declare, by numbers.
@@ -69,7 +76,7 @@ impl Scope {
 
     /// Whether one of some files is seen from a file.
     #[tactic(auto, using(crate::proofs::Loops::visible_here, crate::proofs::Loops::visible_more, crate::proofs::Loops::visible_none, crate::proofs::Loops::visible_end))]
-    fn is_visible(&self, from: u32, files: &NumberList) -> bool
+    pub fn is_visible(&self, from: u32, files: &NumberList) -> bool
         ensures { result ≡ is_visible self.now from files.now }
     {
         for at in 0..files.len() {
@@ -95,15 +102,12 @@ impl Scope {
     pub fn declaration(&self, name: &Text, from: u32) -> Option<Meaning>
         ensures { result ≡ declaration_of self.now name.now from }
     {
-        match at_name(&self.names, &self.declarations, name) {
-            Some(declaration) => {
-                if self.is_visible(from, &declaration.files) {
-                    Some(declaration.meaning)
-                } else {
-                    None
-                }
-            }
-            None => None,
+        let number = self.names.number(name.as_bytes())?;
+        let declaration = self.declarations.get(number)?;
+        if self.is_visible(from, &declaration.files) {
+            Some(declaration.meaning)
+        } else {
+            None
         }
     }
 

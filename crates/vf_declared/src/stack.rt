@@ -1,6 +1,6 @@
 //! Lists that also get shorter.
 
-ghost use Rattle.std.specs.Prelude.{◌≡◌, ◌+◌, [], ◌∷◌, ◌++◌, length, take, drop, slice_get, OnOk};
+ghost use Rattle.std.specs.Prelude.{◌≡◌, ◌+◌, ◌<◌, [], ◌∷◌, ◌++◌, length, take, drop, slice_get, slice_set, Some, OnOk};
 ghost use Rattle.std.specs.Option.{option_copied};
 
 use std::alloc::Global;
@@ -72,5 +72,14 @@ impl<T: Drop> Stack<T> {
         if at < self.items.len() {
             let _item = self.items.remove(at);
         }
+    }
+
+    /// Writes an item in the place of another, and gives that other one.
+    pub fn replace(&mut self, at: usize, item: T) -> T
+        requires { at < length self.old }
+        ensures given { slice_get self.old at ≡ Some result }
+        ensures written { self.new ≡ slice_set self.old at item }
+    {
+        std::mem::replace(&mut self.items[at], item)
     }
 }

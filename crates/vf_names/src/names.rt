@@ -169,6 +169,15 @@ impl Names {
         self.push_all(behind.as_slice())
     }
 
+    /// The same names again.
+    pub fn copy(&self) -> Result<Names, Memory>
+        ensures { IfOk result (λ names. names ≡ self.now) }
+    {
+        let mut names = Names::new(self.alloc);
+        names.push_all(self.names.as_slice())?;
+        Ok(names)
+    }
+
     /// Puts some names to the end.
     fn push_all(&mut self, names: &[Text]) -> Result<(), Memory>
         ensures { OnOk result (self.new ≡ self.old ++ names.now) }

@@ -39,5 +39,9 @@ fn forgets(rt: HostRuntime) -> Result<(), Fail> {
         assert_eq!(rt; names.number(name.as_bytes()), number, "at {name}");
     }
     assert_eq!(rt; names.put(b"c".as_slice()), Ok(2));
+    let Ok(same) = names.copy() else {
+        return Err(Fail::from("want of memory"));
+    };
+    assert_eq!(rt; same.number(b"c".as_slice()), Some(2));
     Ok(())
 }

@@ -21,5 +21,7 @@ mod written;
 
 pub use expr::{assigned, typed, typed_value};
 pub use operand::Operand;
+pub use passing::same_types;
+pub use refusal::refused;
 pub use simple::{refused_condition, refused_simple, target};
 pub use written::written_type;

@@ -15,7 +15,7 @@ use vf_declared::scope::Scope;
 
 /// Whether two lists have the same types in the same order.
 #[tactic(auto, using(crate::proofs::Signatures::same_length, crate::proofs::Signatures::same_done, crate::proofs::Signatures::same_done_first, crate::proofs::Signatures::same_end, crate::proofs::Signatures::same_differs, crate::proofs::Signatures::same_more))]
-fn same_types(first: &Sequence<CType>, second: &Sequence<CType>) -> bool
+pub fn same_types(first: &Sequence<CType>, second: &Sequence<CType>) -> bool
     ensures { result ≡ same_types first.now second.now }
 {
     if first.len() != second.len() {

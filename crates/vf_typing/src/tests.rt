@@ -80,7 +80,7 @@ fn locals(alloc: Global) -> Result<Locals, Stop> {
 }
 
 /// `struct s { int f; struct s *n; unsigned int u; bool b; int *q; fn *h; void *v; };` and `struct o;`
-fn structures(alloc: Global) -> Result<Sequence<Structure>, Stop> {
+fn structures(alloc: Global) -> Result<Stack<Structure>, Stop> {
     let mut names = Names::new(alloc);
     let mut types = Sequence::new(alloc);
     for (name, ctype) in [
@@ -100,14 +100,16 @@ fn structures(alloc: Global) -> Result<Sequence<Structure>, Stop> {
         names,
         types,
     };
-    let mut structures = Sequence::new(alloc);
+    let mut structures = Stack::new(alloc);
     structures.push(Structure {
         files: only(alloc, 1)?,
         fields: Some(fields),
+        is_opaque: false,
     })?;
     structures.push(Structure {
         files: only(alloc, 1)?,
         fields: None,
+        is_opaque: true,
     })?;
     Ok(structures)
 }
@@ -134,9 +136,9 @@ fn functions(alloc: Global) -> Result<Sequence<Signature>, Stop> {
 }
 
 /// The function type fn, the functions g, k and t, and a ghost p, all declared in file 1.
-fn declarations(alloc: Global) -> Result<(Names, Sequence<Declaration>), Stop> {
+fn declarations(alloc: Global) -> Result<(Names, Stack<Declaration>), Stop> {
     let mut names = Names::new(alloc);
-    let mut declarations = Sequence::new(alloc);
+    let mut declarations = Stack::new(alloc);
     for (name, meaning) in [
         ("fn", Meaning::FunctionType(0)),
         ("g", Meaning::Function(0)),
@@ -174,6 +176,7 @@ fn scope(alloc: Global, has_stdlib: bool, has_arrays: bool) -> Result<Scope, Sto
     Ok(Scope {
         file: 0,
         headers,
+        preludes: NumberList::new(alloc),
         has_stdlib,
         has_arrays,
         locals: locals(alloc)?,
@@ -185,6 +188,7 @@ fn scope(alloc: Global, has_stdlib: bool, has_arrays: bool) -> Result<Scope, Sto
         tags,
         structures: structures(alloc)?,
         functions: functions(alloc)?,
+        sides: Stack::new(alloc),
         function_types,
         ghosts: Sequence::new(alloc),
         datatypes: Sequence::new(alloc),

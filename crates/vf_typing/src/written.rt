@@ -53,7 +53,7 @@ fn integer_type(words: IntegerWords) -> IntType
 
 /// The refusal of a name that is of no function type, where it may be that of a local.
 fn no_function_type(local: Option<&Local>, place: Place) -> Result<CType, Refusal>
-    ensures { result ≡ no_function_type (option_copied local) place }
+    ensures { result ≡ no_function_type (option_copied local.entry) place }
 {
     match local {
         Some(Local::Ghost(_)) => Err(refused(Rule::GhostInReal, place)),
