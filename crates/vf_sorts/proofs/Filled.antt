@@ -5,13 +5,14 @@ use Rattle.std.proofs.lemmas.Bool.Decides.{nat_tests}
 use Rattle.vf_sorts.specs.declared.sort.Head.{Head}
 use Rattle.vf_sorts.specs.declared.sort.Head.TheVariants as heads
 use Rattle.vf_sorts.specs.Sorts.{Sort, Sorts, sort, no_sorts, and_sort, row}
+use Rattle.vf_sorts.specs.Told.{untold, untold_all}
 use Rattle.vf_sorts.specs.Unknowns.{Filling, headed, filled, filled_all, is_in_head, numbered_in_head, numbered_below, all_numbered_below, IsBelow, EachUnknownOf, instance_of, instance, instances}
 
 -- a head that is no unknown sort stays
 pub head_filled : (f : Filling) (h : Head) (ts : Sorts) → ((u : ℕ) → h ≢ heads.Unknown u) → headed f h ts ≡ sort h ts
 head_filled f heads.Int ts n = refl
 head_filled f heads.Bool ts n = refl
-head_filled f heads.Pointer ts n = refl
+head_filled f (heads.Pointer w) ts n = refl
 head_filled f heads.Real ts n = refl
 head_filled f heads.Any ts n = refl
 head_filled f (heads.Parameter i) ts n = refl
@@ -22,7 +23,7 @@ head_filled f heads.Predicate ts n = refl
 pub head_held : (u : ℕ) (h : Head) (b : Bool) → ((v : ℕ) → h ≢ heads.Unknown v) → is_in_head u h b ≡ b
 head_held u heads.Int b n = refl
 head_held u heads.Bool b n = refl
-head_held u heads.Pointer b n = refl
+head_held u (heads.Pointer w) b n = refl
 head_held u heads.Real b n = refl
 head_held u heads.Any b n = refl
 head_held u (heads.Parameter i) b n = refl
@@ -34,7 +35,7 @@ head_held u heads.Predicate b n = refl
 pub head_of_instance : (first count : ℕ) (h : Head) (ts : Sorts) → ((i : ℕ) → h ≢ heads.Parameter i) → instance_of first count h ts ≡ sort h ts
 head_of_instance first count heads.Int ts n = refl
 head_of_instance first count heads.Bool ts n = refl
-head_of_instance first count heads.Pointer ts n = refl
+head_of_instance first count (heads.Pointer w) ts n = refl
 head_of_instance first count heads.Real ts n = refl
 head_of_instance first count heads.Any ts n = refl
 head_of_instance first count (heads.Parameter i) ts n = absurd (n i refl)
@@ -55,7 +56,7 @@ row_of_instances first count (s ∷ ss) = ap (and_sort (instance first count s))
 headed_twice : (f g : Filling) (h : Head) (ts : Sorts) → filled g (headed f h (filled_all f ts)) ≡ headed (λ u. filled g (f u)) h (filled_all g (filled_all f ts))
 headed_twice f g heads.Int ts = refl
 headed_twice f g heads.Bool ts = refl
-headed_twice f g heads.Pointer ts = refl
+headed_twice f g (heads.Pointer w) ts = refl
 headed_twice f g heads.Real ts = refl
 headed_twice f g heads.Any ts = refl
 headed_twice f g (heads.Parameter i) ts = refl
@@ -75,7 +76,7 @@ mutual
 pub head_numbered : (n : ℕ) (h : Head) (b : Bool) → ((u : ℕ) → h ≢ heads.Unknown u) → numbered_in_head n h b ≡ b
 head_numbered n heads.Int b m = refl
 head_numbered n heads.Bool b m = refl
-head_numbered n heads.Pointer b m = refl
+head_numbered n (heads.Pointer w) b m = refl
 head_numbered n heads.Real b m = refl
 head_numbered n heads.Any b m = refl
 head_numbered n (heads.Parameter i) b m = refl
@@ -93,7 +94,7 @@ mutual
   pub below_told : (n : ℕ) (s : Sort) → IsTrue (numbered_below n s) ↔ IsBelow n s
   below_told n (sort heads.Int ts) = all_below_told n ts
   below_told n (sort heads.Bool ts) = all_below_told n ts
-  below_told n (sort heads.Pointer ts) = all_below_told n ts
+  below_told n (sort (heads.Pointer w) ts) = all_below_told n ts
   below_told n (sort heads.Real ts) = all_below_told n ts
   below_told n (sort heads.Any ts) = all_below_told n ts
   below_told n (sort (heads.Parameter i) ts) = all_below_told n ts
@@ -104,3 +105,8 @@ mutual
   all_below_told : (n : ℕ) (ts : Sorts) → IsTrue (all_numbered_below n ts) ↔ EachUnknownOf (λ u. u < n) ts
   all_below_told n no_sorts = (λ e. tt, λ h. refl)
   all_below_told n (and_sort t ts) = both_told (numbered_below n t) (all_numbered_below n ts) (IsBelow n t) (EachUnknownOf (λ u. u < n) ts) (below_told n t) (all_below_told n ts)
+
+-- a sort that is made of parts is seen by its head and its parts
+pub row_untold : (ss : List Sort) → untold_all (row ss) ≡ row (map untold ss)
+row_untold [] = refl
+row_untold (s ∷ ss) = ap (and_sort (untold s)) (row_untold ss)

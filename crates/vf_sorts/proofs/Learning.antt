@@ -7,8 +7,8 @@ use Rattle.std.proofs.lemmas.Bool.Decides.{nat_tests}
 use Rattle.std.proofs.lemmas.Option.{slice_get_within}
 use Rattle.vf_sorts.specs.declared.sort.Head.TheVariants as heads
 use Rattle.vf_sorts.specs.Sorts.{Sort, Sorts, sort, no_sorts, and_sort}
-use Rattle.vf_sorts.specs.Unknowns.{Filling, filled, filled_all, Known, known_or, by_known, Agrees, EachUnknown, EachUnknownOf, IsBelow, IsOpen, IsResolved, is_in, is_in_some, only, with_known}
-use Rattle.vf_sorts.proofs.Agreeing.{only_same, only_other, learnt, kept, substituted}
+use Rattle.vf_sorts.specs.Unknowns.{Filling, filled, filled_all, Known, known_or, by_known, EachUnknown, EachUnknownOf, IsBelow, IsOpen, IsResolved, is_in, is_in_some, only, with_known}
+use Rattle.vf_sorts.proofs.Agreeing.{Respects, AgreesSeen, only_same, only_other, learnt, kept, substituted}
 
 -- what a sort is known to be where another one was put into what was known
 known_before : (g : Sort → Sort) (o : Option (Option Sort)) (t : Sort) → option_map (option_map g) o ≡ Some (Some t) → (r : Sort) × (o ≡ Some (Some r)) × (g r ≡ t)
@@ -17,33 +17,33 @@ known_before g (Some None) t e = cc
 known_before g None t e = cc
 
 -- sorts agree with what is known then where they did before and the sort is equal
-pub agrees_with : (known : Known) (u : ℕ) (s : Sort) → slice_get known u ≡ Some None → (f : Filling) → Agrees f (with_known known u s) ↔ (Agrees f known × (f u ≡ filled f s))
-agrees_with known u s h f = (λ a. (λ v t e. before a v t e (ℕ_discrete u v), a u s (learnt known (filled (only u s)) u s None h)), λ b v t e. after b.0 b.1 v t e (ℕ_discrete u v))
+pub agrees_with : (o : Sort → Sort) → Respects o → (known : Known) (u : ℕ) (s : Sort) → slice_get known u ≡ Some None → (f : Filling) → AgreesSeen o f (with_known known u s) ↔ (AgreesSeen o f known × (o (f u) ≡ o (filled f s)))
+agrees_with o r known u s h f = (λ a. (λ v t e. before a v t e (ℕ_discrete u v), a u s (learnt known (filled (only u s)) u s None h)), λ b v t e. after b.0 b.1 v t e (ℕ_discrete u v))
   where
-    before : Agrees f (with_known known u s) → (v : ℕ) (t : Sort) → slice_get known v ≡ Some (Some t) → Dec (u ≡ v) → f v ≡ filled f t
+    before : AgreesSeen o f (with_known known u s) → (v : ℕ) (t : Sort) → slice_get known v ≡ Some (Some t) → Dec (u ≡ v) → o (f v) ≡ o (filled f t)
     before a v t e (yes p) = absurd (never (subst (λ (w : ℕ). slice_get known w ≡ Some None) p h))
       where
         never : slice_get known v ≡ Some None → ⊥
         never k = cc
     before a v t e (no n) =
         a v (filled (only u s) t) (kept known (filled (only u s)) u v s n ∙ ap (option_map (option_map (filled (only u s)))) e)
-        ∙ substituted f u s (a u s (learnt known (filled (only u s)) u s None h)) t
+        ∙ substituted o r f u s (a u s (learnt known (filled (only u s)) u s None h)) t
 
-    after : Agrees f known → f u ≡ filled f s → (v : ℕ) (t : Sort) → slice_get (with_known known u s) v ≡ Some (Some t) → Dec (u ≡ v) → f v ≡ filled f t
+    after : AgreesSeen o f known → o (f u) ≡ o (filled f s) → (v : ℕ) (t : Sort) → slice_get (with_known known u s) v ≡ Some (Some t) → Dec (u ≡ v) → o (f v) ≡ o (filled f t)
     after b eq v t e (yes p) =
         let there : slice_get (with_known known u s) v ≡ Some (Some s) = subst (λ (w : ℕ). slice_get (with_known known u s) w ≡ Some (Some s)) p (learnt known (filled (only u s)) u s None h) in
         let same : s ≡ t = cc in
-        ap f (sym p) ∙ eq ∙ ap (filled f) same
+        ap (λ (w : ℕ). o (f w)) (sym p) ∙ eq ∙ ap (λ (q : Sort). o (filled f q)) same
     after b eq v t e (no n) =
         let was = known_before (filled (only u s)) (slice_get known v) t (sym (kept known (filled (only u s)) u v s n) ∙ e) in
-        b v was.0 was.1 ∙ sym (substituted f u s eq was.0) ∙ ap (filled f) was.2
+        b v was.0 was.1 ∙ sym (substituted o r f u s eq was.0) ∙ ap (λ (q : Sort). o (filled f q)) was.2
 
 -- ---- what is said of each unknown sort
 mutual
   pub each_filled : (P Q : ℕ → Type 0) (f : Filling) → ((u : ℕ) → P u → EachUnknown Q (f u)) → (s : Sort) → EachUnknown P s → EachUnknown Q (filled f s)
   each_filled P Q f step (sort heads.Int ts) h = each_filled_of P Q f step ts h
   each_filled P Q f step (sort heads.Bool ts) h = each_filled_of P Q f step ts h
-  each_filled P Q f step (sort heads.Pointer ts) h = each_filled_of P Q f step ts h
+  each_filled P Q f step (sort (heads.Pointer w) ts) h = each_filled_of P Q f step ts h
   each_filled P Q f step (sort heads.Real ts) h = each_filled_of P Q f step ts h
   each_filled P Q f step (sort heads.Any ts) h = each_filled_of P Q f step ts h
   each_filled P Q f step (sort (heads.Parameter i) ts) h = each_filled_of P Q f step ts h
@@ -64,7 +64,7 @@ mutual
   pub each_other : (P : ℕ → Type 0) (u : ℕ) (s : Sort) → is_in u s ≡ false → EachUnknown P s → EachUnknown (λ v. P v × (u ≢ v)) s
   each_other P u (sort heads.Int ts) e h = each_other_of P u ts e h
   each_other P u (sort heads.Bool ts) e h = each_other_of P u ts e h
-  each_other P u (sort heads.Pointer ts) e h = each_other_of P u ts e h
+  each_other P u (sort (heads.Pointer w) ts) e h = each_other_of P u ts e h
   each_other P u (sort heads.Real ts) e h = each_other_of P u ts e h
   each_other P u (sort heads.Any ts) e h = each_other_of P u ts e h
   each_other P u (sort (heads.Parameter i) ts) e h = each_other_of P u ts e h
@@ -82,7 +82,7 @@ mutual
   pub each_more : (P Q : ℕ → Type 0) → ((u : ℕ) → P u → Q u) → (s : Sort) → EachUnknown P s → EachUnknown Q s
   each_more P Q step (sort heads.Int ts) h = each_more_of P Q step ts h
   each_more P Q step (sort heads.Bool ts) h = each_more_of P Q step ts h
-  each_more P Q step (sort heads.Pointer ts) h = each_more_of P Q step ts h
+  each_more P Q step (sort (heads.Pointer w) ts) h = each_more_of P Q step ts h
   each_more P Q step (sort heads.Real ts) h = each_more_of P Q step ts h
   each_more P Q step (sort heads.Any ts) h = each_more_of P Q step ts h
   each_more P Q step (sort (heads.Parameter i) ts) h = each_more_of P Q step ts h

@@ -12,7 +12,7 @@ mutual
   filled_at : (f g : Filling) (s : Sort) → EachUnknown (λ u. f u ≡ g u) s → filled f s ≡ filled g s
   filled_at f g (sort heads.Int ts) h = ap (sort heads.Int) (all_filled_at f g ts h)
   filled_at f g (sort heads.Bool ts) h = ap (sort heads.Bool) (all_filled_at f g ts h)
-  filled_at f g (sort heads.Pointer ts) h = ap (sort heads.Pointer) (all_filled_at f g ts h)
+  filled_at f g (sort (heads.Pointer w) ts) h = ap (sort (heads.Pointer w)) (all_filled_at f g ts h)
   filled_at f g (sort heads.Real ts) h = ap (sort heads.Real) (all_filled_at f g ts h)
   filled_at f g (sort heads.Any ts) h = ap (sort heads.Any) (all_filled_at f g ts h)
   filled_at f g (sort (heads.Parameter i) ts) h = ap (sort (heads.Parameter i)) (all_filled_at f g ts h)

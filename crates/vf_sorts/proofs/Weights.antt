@@ -65,7 +65,7 @@ mutual
   grown : (f : Filling) (m : ℕ) → 0 < m → ((v : ℕ) → size_of (f v) ≤ m) → (t : Sort) → size_of (filled f t) ≤ size_of t * m
   grown f m p most (sort heads.Int ts) = one_more_head _ _ m (all_grown f m p most ts) p
   grown f m p most (sort heads.Bool ts) = one_more_head _ _ m (all_grown f m p most ts) p
-  grown f m p most (sort heads.Pointer ts) = one_more_head _ _ m (all_grown f m p most ts) p
+  grown f m p most (sort (heads.Pointer w) ts) = one_more_head _ _ m (all_grown f m p most ts) p
   grown f m p most (sort heads.Real ts) = one_more_head _ _ m (all_grown f m p most ts) p
   grown f m p most (sort heads.Any ts) = one_more_head _ _ m (all_grown f m p most ts) p
   grown f m p most (sort (heads.Parameter i) ts) = one_more_head _ _ m (all_grown f m p most ts) p

@@ -1,4 +1,5 @@
 pub mod Sorts
+pub mod Told
 pub mod Codes
 pub mod Unknowns
 pub mod Fillers

@@ -14,14 +14,14 @@ abbrev pub paired : List Sort → List Sort → List Pair
 paired (s ∷ ss) (t ∷ ts) = record { left = s; right = t } ∷ paired ss ts
 paired _ _ = []
 
--- two sorts are equal where something fills the unknown ones
-abbrev pub AreEqual : Filling → Pair → Type 0
-AreEqual f p = filled f p.left ≡ filled f p.right
+-- two sorts are equal as something sees them, where something fills the unknown ones
+abbrev pub AreEqual : (Sort → Sort) → Filling → Pair → Type 0
+AreEqual g f p = g (filled f p.left) ≡ g (filled f p.right)
 
 -- the same of each of some pairs
-abbrev pub AllEqual : Filling → List Pair → Type 0
-AllEqual f [] = Unit {0}
-AllEqual f (p ∷ pairs) = AreEqual f p × AllEqual f pairs
+abbrev pub AllEqual : (Sort → Sort) → Filling → List Pair → Type 0
+AllEqual g f [] = Unit {0}
+AllEqual g f (p ∷ pairs) = AreEqual g f p × AllEqual g f pairs
 
 -- the unknown sorts of a pair have numbers below this
 abbrev pub ArePairBelow : ℕ → Pair → Type 0

@@ -2,7 +2,8 @@
 //!
 //! Each use of a constructor, a fixpoint or a lemma with type parameters begins with unknown sorts in their place,
 //! and its arguments make them equal to what they are. [`Unknowns::unify`] makes two sorts equal wherever that can
-//! be, and learns no more than that.
+//! be, and learns no more than that. The struct that the written type of a pointer tells is kept, and makes no sorts
+//! unequal.
 #![tactic(auto)]
 
 mod filling;
@@ -16,5 +17,5 @@ mod tests;
 mod unify;
 mod unknowns;
 
-pub use sort::{Head, Sort, SortList, are_one};
+pub use sort::{Head, Sort, SortList, are_alike, are_one};
 pub use unknowns::Unknowns;

@@ -3,6 +3,7 @@
 ghost use Rattle.std.specs.Prelude.{◌≡◌, ◌↔◌, [], ◌∷◌, ◌++◌, length, slice_get, IsTrue, IfOk, OnOk, OnErr};
 ghost use Rattle.std.specs.Option.{option_copied};
 ghost use Rattle.vf_sorts.specs.Sorts.{sort, no_sorts, row};
+ghost use Rattle.vf_sorts.specs.Told.{untold_head};
 
 use std::alloc::Global;
 use std::marker::Model;
@@ -15,8 +16,9 @@ pub enum Head {
     Int,
     /// Truth values.
     Bool,
-    /// Pointers of every type.
-    Pointer,
+    /// Pointers of every type, and the struct whose fields they point to where the written type tells it, by the number
+    /// of its tag.
+    Pointer(Option<usize>),
     /// Positive fractions.
     Real,
     /// Values of every sort.
@@ -51,6 +53,23 @@ pub fn are_one(first: Head, second: Head) -> bool
     ensures { IsTrue result ↔ (first ≡ second) }
 {
     first == second
+}
+
+/// A head without what a pointer tells.
+fn untold_head(head: Head) -> Head
+    ensures { result ≡ untold_head head }
+{
+    match head {
+        Head::Pointer(_) => Head::Pointer(None),
+        other => other,
+    }
+}
+
+/// Whether two heads are one, up to what pointers tell.
+pub fn are_alike(first: Head, second: Head) -> bool
+    ensures { IsTrue result ↔ (untold_head first ≡ untold_head second) }
+{
+    are_one(untold_head(first), untold_head(second))
 }
 
 impl Model for Sort {

@@ -7,7 +7,9 @@ use std::test::Fail;
 fn head_of(letter: u8) -> Head {
     match letter {
         b'b' => Head::Bool,
-        b'p' => Head::Pointer,
+        b'p' => Head::Pointer(None),
+        b'q' => Head::Pointer(Some(3)),
+        b'w' => Head::Pointer(Some(4)),
         b'r' => Head::Real,
         b'a' => Head::Any,
         b's' => Head::Parameter(0),
@@ -82,7 +84,7 @@ fn check(
 
 #[test]
 fn equations(rt: HostRuntime) -> Result<(), Fail> {
-    let cases: [(&[(&str, &str)], bool, (&str, &str)); 16] = [
+    let cases: [(&[(&str, &str)], bool, (&str, &str)); 22] = [
         (&[("i", "i")], true, ("0", "a")),
         (&[("i", "b")], false, ("i", "i")),
         (&[("0", "i")], true, ("0L", "iL")),
@@ -99,6 +101,12 @@ fn equations(rt: HostRuntime) -> Result<(), Fail> {
         (&[("00P", "ibP")], false, ("1", "a")),
         (&[("iL", "n")], false, ("1", "a")),
         (&[("s", "t")], false, ("s", "s")),
+        (&[("p", "q"), ("w", "q")], true, ("w", "w")),
+        (&[("0", "q"), ("0", "w"), ("p", "0")], true, ("0", "q")),
+        (&[("qL", "0L"), ("0", "p")], true, ("0L", "qL")),
+        (&[("0", "pL"), ("0", "qL")], true, ("0", "pL")),
+        (&[("0", "q"), ("0", "i")], false, ("0", "q")),
+        (&[("0", "1"), ("1", "w")], true, ("0", "w")),
     ];
     for (equations, last, settled) in cases {
         check(&rt, rt.alloc(), equations, last, settled)?;

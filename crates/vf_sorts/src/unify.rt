@@ -3,14 +3,15 @@
 ghost use Rattle.std.specs.Prelude.{◌≡◌, ◌≢◌, ◌↔◌, ℕ, ◌+◌, ◌≤◌, ◌<◌, ◌++◌, ◌∷◌, List, length, slice_get, Some, None, IsTrue, IfOk, OnOk, OnErr, MatchOption, MatchBool};
 ghost use Rattle.vf_sorts.specs.declared.sort.Head.TheVariants.{Unknown};
 ghost use Rattle.vf_sorts.specs.Sorts.{size_of};
-ghost use Rattle.vf_sorts.specs.Unknowns.{Filling, filled, Agrees, IsBelow, IsOpen, IsResolved, with_known};
+ghost use Rattle.vf_sorts.specs.Told.{AreAlike, as_told, untold};
+ghost use Rattle.vf_sorts.specs.Unknowns.{Filling, filled, Agrees, AgreesAsTold, AreApart, Equates, IsBelow, IsOpen, IsResolved, with_known};
 ghost use Rattle.vf_sorts.specs.declared.pair.Pair.{Pair};
 ghost use Rattle.vf_sorts.specs.Pairs.{head_of, AreEqual, AllEqual, ArePairBelow, AreBelow, open_count, load, left_to_do, weight};
 
 use crate::filling::{resolve, substitute};
 use crate::occurrence::is_in;
 use crate::pair::{Pair, pair_of, pair_parts};
-use crate::sort::{Head, Sort, are_one};
+use crate::sort::{Head, Sort, are_alike};
 use std::alloc::Global;
 use vf_base::Memory;
 
@@ -59,7 +60,7 @@ fn is_unknown(number: usize, sort: &Sort) -> bool
 }
 
 /// Makes an unknown sort equal to a sort. No sort is equal to one that stands inside of it.
-#[tactic(auto, using(crate::proofs::Agreeing::agreed, crate::proofs::Agreeing::learnt))]
+#[tactic(auto, using(crate::proofs::Agreeing::learnt))]
 fn assign(
     alloc: Global,
     known: &mut Vec<Option<Sort>>,
@@ -72,9 +73,11 @@ fn assign(
     ensures length { length known.new.items ≡ length known.old.items }
     ensures resolved { IsResolved known.new.items }
     ensures grown { (f : Filling) → Agrees f known.new.items → Agrees f known.old.items }
+    ensures kept { (f : Filling) → AgreesAsTold f known.new.items → AgreesAsTold f known.old.items }
     ensures equal { IfOk result (λ yes. MatchBool yes
-        ((f : Filling) → Agrees f known.new.items ↔ (Agrees f known.old.items × (f number ≡ filled f sort)))
-        ((f : Filling) → f number ≢ filled f sort)) }
+        ((f : Filling) → Agrees f known.new.items ↔ (Agrees f known.old.items × AreAlike (f number) (filled f sort)))
+        ((f : Filling) → AreAlike (f number) (filled f sort) → ⊥)) }
+    ensures told { OnOk result ((f : Filling) → AgreesAsTold f known.old.items → f number ≡ filled f sort → AgreesAsTold f known.new.items) }
     ensures falls { IfOk result (λ yes. IsTrue yes → (pairs : List Pair) (more : ℕ) → 0 < more → weight known.new.items pairs < left_to_do (open_count known.old.items) (more + size_of sort + load known.old.items pairs)) }
 {
     if is_unknown(number, &sort) {
@@ -102,10 +105,12 @@ fn unify_resolved(
     ensures length { length known.new.items ≡ length known.old.items }
     ensures resolved { IsResolved known.new.items }
     ensures grown { (f : Filling) → Agrees f known.new.items → Agrees f known.old.items }
+    ensures kept { (f : Filling) → AgreesAsTold f known.new.items → AgreesAsTold f known.old.items }
     ensures below { IfOk result (λ _. AreBelow (length known.old.items) pairs.new.items) }
     ensures equal { IfOk result (λ yes. MatchBool yes
-        ((f : Filling) → (Agrees f known.new.items × AllEqual f pairs.new.items) ↔ (Agrees f known.old.items × (filled f left ≡ filled f right) × AllEqual f pairs.old.items))
-        ((f : Filling) → filled f left ≢ filled f right)) }
+        ((f : Filling) → (Agrees f known.new.items × AllEqual untold f pairs.new.items) ↔ (Agrees f known.old.items × AreAlike (filled f left) (filled f right) × AllEqual untold f pairs.old.items))
+        ((f : Filling) → AreAlike (filled f left) (filled f right) → ⊥)) }
+    ensures told { OnOk result ((f : Filling) → AgreesAsTold f known.old.items → filled f left ≡ filled f right → AllEqual as_told f pairs.old.items → AgreesAsTold f known.new.items × AllEqual as_told f pairs.new.items) }
     ensures falls { IfOk result (λ yes. IsTrue yes → weight known.new.items pairs.new.items < left_to_do (open_count known.old.items) (size_of left + size_of right + load known.old.items pairs.old.items)) }
 {
     if let Some(number) = unknown_in(&left) {
@@ -116,7 +121,7 @@ fn unify_resolved(
         let is_made = assign(alloc, known, number, left)?;
         return Ok(is_made);
     }
-    if !are_one(left.head, right.head) {
+    if !are_alike(left.head, right.head) {
         return Ok(false);
     }
     if left.parts.len() != right.parts.len() {
@@ -139,10 +144,12 @@ fn unify_pair(
     ensures length { length known.new.items ≡ length known.old.items }
     ensures resolved { IsResolved known.new.items }
     ensures grown { (f : Filling) → Agrees f known.new.items → Agrees f known.old.items }
+    ensures kept { (f : Filling) → AgreesAsTold f known.new.items → AgreesAsTold f known.old.items }
     ensures below { IfOk result (λ _. AreBelow (length known.old.items) pairs.new.items) }
     ensures equal { IfOk result (λ yes. MatchBool yes
-        ((f : Filling) → (Agrees f known.new.items × AllEqual f pairs.new.items) ↔ (Agrees f known.old.items × AreEqual f pair × AllEqual f pairs.old.items))
-        ((f : Filling) → Agrees f known.old.items → AreEqual f pair → ⊥)) }
+        ((f : Filling) → (Agrees f known.new.items × AllEqual untold f pairs.new.items) ↔ (Agrees f known.old.items × AreEqual untold f pair × AllEqual untold f pairs.old.items))
+        ((f : Filling) → Agrees f known.old.items → AreEqual untold f pair → ⊥)) }
+    ensures told { OnOk result ((f : Filling) → AgreesAsTold f known.old.items → AreEqual as_told f pair → AllEqual as_told f pairs.old.items → AgreesAsTold f known.new.items × AllEqual as_told f pairs.new.items) }
     ensures falls { IfOk result (λ yes. IsTrue yes → weight known.new.items pairs.new.items < weight known.old.items (pair ∷ pairs.old.items)) }
 {
     let left = resolve(alloc, known, &pair.left)?;
@@ -151,7 +158,8 @@ fn unify_pair(
     Ok(is_made)
 }
 
-/// Makes two sorts equal by what comes to be known of the unknown ones; false where nothing does that.
+/// Makes two sorts equal, up to what pointers tell, by what comes to be known of the unknown ones; false where nothing
+/// does that.
 pub fn unify(
     alloc: Global,
     known: &mut Vec<Option<Sort>>,
@@ -164,9 +172,10 @@ pub fn unify(
     ensures length { length known.new.items ≡ length known.old.items }
     ensures resolved { IsResolved known.new.items }
     ensures grown { (f : Filling) → Agrees f known.new.items → Agrees f known.old.items }
+    ensures kept { (f : Filling) → AgreesAsTold f known.new.items → AgreesAsTold f known.old.items }
     ensures equal { IfOk result (λ yes. MatchBool yes
-        ((f : Filling) → Agrees f known.new.items ↔ (Agrees f known.old.items × (filled f left.now ≡ filled f right.now)))
-        ((f : Filling) → Agrees f known.old.items → filled f left.now ≡ filled f right.now → ⊥)) }
+        (Equates known.old.items left.now right.now known.new.items)
+        (AreApart known.old.items left.now right.now)) }
 {
     let mut pairs = Vec::new(alloc);
     pairs.push(pair_of(alloc, left, right)?)?;

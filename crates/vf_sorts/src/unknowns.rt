@@ -1,7 +1,7 @@
 //! Unknown sorts, and what is known of them.
 
 ghost use Rattle.std.specs.Prelude.{◌≡◌, ◌↔◌, ◌+◌, ◌++◌, [], ◌<◌, ◌^◌, length, replicate, None, IsTrue, IfOk, OnOk, OnErr, MatchBool};
-ghost use Rattle.vf_sorts.specs.Unknowns.{Filling, Agrees, IsBelow, by_known, filled, instance, settling};
+ghost use Rattle.vf_sorts.specs.Unknowns.{Filling, Agrees, AgreesAsTold, AreApart, Equates, IsBelow, by_known, filled, instance, settling};
 
 use crate::filling::{resolve, settle};
 use crate::instance::instance;
@@ -68,17 +68,17 @@ impl Unknowns {
         Ok(number)
     }
 
-    /// Makes two sorts equal by what comes to be known; false where nothing does that.
+    /// Makes two sorts equal, up to what pointers tell, by what comes to be known; false where nothing does that.
     ///
-    /// Whatever is answered, sorts that agree with what is known then agree with what was known before.
+    /// Whatever is answered, sorts that agree with what is known then agree with what was known before. What a pointer
+    /// tells is kept, and an unknown sort that is made equal to it tells the same.
     pub fn unify(&mut self, left: &Sort, right: &Sort) -> Result<bool, Memory>
         requires left { IsBelow (length self.old) left.now }
         requires right { IsBelow (length self.old) right.now }
         ensures length { length self.new ≡ length self.old }
         ensures grown { (f : Filling) → Agrees f self.new → Agrees f self.old }
-        ensures equal { IfOk result (λ yes. MatchBool yes
-            ((f : Filling) → Agrees f self.new ↔ (Agrees f self.old × (filled f left.now ≡ filled f right.now)))
-            ((f : Filling) → Agrees f self.old → filled f left.now ≡ filled f right.now → ⊥)) }
+        ensures kept { (f : Filling) → AgreesAsTold f self.new → AgreesAsTold f self.old }
+        ensures equal { IfOk result (λ yes. MatchBool yes (Equates self.old left.now right.now self.new) (AreApart self.old left.now right.now)) }
     {
         unify(self.alloc, &mut self.known, left, right)
     }

@@ -1,5 +1,6 @@
 use Rattle.std.proofs.Common.{◌≡◌, ◌↔◌, length}
-use Rattle.vf_sorts.specs.Unknowns.{Filling, filled, Agrees, IsResolved}
+use Rattle.vf_sorts.specs.Unknowns.{Filling, filled, Agrees, AgreesAsTold, IsResolved}
+use Rattle.vf_sorts.specs.Told.{AreAlike, as_told, untold}
 use Rattle.vf_sorts.specs.Pairs.{AllEqual, AreBelow, weight}
 use Rattle.vf_sorts.proofs.unify.unify.Given as goal
 
@@ -9,7 +10,9 @@ invariant-loop-pair l = record {
   resolved : IsResolved l.known.items;
   grown : (f : Filling) → Agrees f l.known.items → Agrees f l.fn.known.items;
   below : AreBelow (length l.known.items) l.pairs.items;
-  equal : (f : Filling) → (Agrees f l.known.items × AllEqual f l.pairs.items) ↔ (Agrees f l.fn.known.items × (filled f l.fn.left ≡ filled f l.fn.right));
+  kept : (f : Filling) → AgreesAsTold f l.known.items → AgreesAsTold f l.fn.known.items;
+  equal : (f : Filling) → (Agrees f l.known.items × AllEqual untold f l.pairs.items) ↔ (Agrees f l.fn.known.items × AreAlike (filled f l.fn.left) (filled f l.fn.right));
+  told : (f : Filling) → (AgreesAsTold f l.fn.known.items × (filled f l.fn.left ≡ filled f l.fn.right)) → AgreesAsTold f l.known.items × AllEqual as_told f l.pairs.items;
 }
 
 abbrev pub decreases-loop-pair : goal.decreases-loop-pair
