@@ -20,7 +20,7 @@ use Rattle.vf_arith.proofs.Distances.{more, is_under, at_most, no_cycle, distanc
 use Rattle.vf_arith.proofs.Simplified.{distances_small}
 
 -- what is in a row of a matrix of distances is small
-pub row_small : (size : ℕ) (edges : List Edge) (d : ℕ → ℕ → Option ℤ) (row : List (Option ℤ)) (x y : ℕ → ℕ) → size ≤ 4096 → AreDistances size edges d → ((e : Edge) → Contains edges e → IsSmall (2 ^ 100) e.most) →
+pub row_small : (size : ℕ) (edges : List Edge) (d : ℕ → ℕ → Option ℤ) (row : List (Option ℤ)) (x y : ℕ → ℕ) → size ≤ 2 ^ 24 → AreDistances size edges d → ((e : Edge) → Contains edges e → IsSmall (2 ^ 100) e.most) →
     length row ≡ size → ((k : ℕ) → k < size → (x k < size) × (y k < size)) → ((k : ℕ) → k < size → entry row k ≡ d (x k) (y k)) → AreSmall row
 row_small size edges d row x y few is small long points at k v e = elim (cases_lt k size) [
   | inl l ↦ (let s = distances_small size (2 ^ 100) edges d is small (x k) (y k) v ((points k l).0) ((points k l).1) (sym (at k l) ∙ e) in
@@ -71,7 +71,7 @@ matrix_relaxed size edges c matrix after e row column most mis is unset new inx 
 }
 
 -- the distances where there is no edge
-pub matrix_none : (size : ℕ) (matrix : List (Option ℤ)) → size ≤ 4096 → length matrix ≡ size * size → ((k : ℕ) → k < size * size → entry matrix k ≡ (if k / size == k % size then Some (pos 0) else None)) → IsMatrix size [] false matrix
+pub matrix_none : (size : ℕ) (matrix : List (Option ℤ)) → size ≤ 2 ^ 24 → length matrix ≡ size * size → ((k : ℕ) → k < size * size → entry matrix k ≡ (if k / size == k % size then Some (pos 0) else None)) → IsMatrix size [] false matrix
 matrix_none size matrix few long entries = record {
   few = few;
   long = long;

@@ -44,7 +44,7 @@ is_above (Some v) = int_lt (pos 0) v
 
 -- the matrix has the least weights, or there is a negative cycle
 pub record IsMatrix (size : ℕ) (edges : List Edge) (cyclic : Bool) (matrix : List (Option ℤ)) : Type 0 where
-  pub few : size ≤ 4096
+  pub few : size ≤ 2 ^ 24
   pub long : length matrix ≡ size * size
   pub small : (e : Edge) → Contains edges e → IsSmall (2 ^ 100) e.most
   pub exact : IsFalse cyclic → AreDistances size edges (distance size matrix)
@@ -52,4 +52,4 @@ pub record IsMatrix (size : ℕ) (edges : List Edge) (cyclic : Bool) (matrix : L
 
 -- each number of a list of distances is small
 abbrev pub AreSmall : List (Option ℤ) → Type 0
-AreSmall row = (k : ℕ) (v : ℤ) → entry row k ≡ Some v → IsSmall (2 ^ 112) v
+AreSmall row = (k : ℕ) (v : ℤ) → entry row k ≡ Some v → IsSmall (2 ^ 124) v

@@ -11,6 +11,10 @@ use vf_base::Memory;
 /// The most that a number in a bound can be.
 const SMALL: i128 = 1 << 100;
 
+/// The most points between which there can be bounds: a matrix of more than 2^48 distances is past
+/// what a machine can address.
+pub const MOST_POINTS: u32 = 1 << 24;
+
 /// A bound: the point `from` less the point `to` is at most `most`.
 #[derive(Clone, Copy, Debug)]
 pub struct Edge {
@@ -52,7 +56,7 @@ impl Model for Bounds {
 impl Bounds {
     /// No bounds between points of this number.
     pub fn new(alloc: Global, size: u32) -> Result<Bounds, Memory>
-        requires few { size ≤ 4096 }
+        requires few { size ≤ MOST_POINTS }
         ensures { IfOk result (λ b. (b.size ≡ size) × (b.edges ≡ [])) }
     {
         Ok(Bounds {
@@ -109,6 +113,6 @@ impl Bounds {
         requires right { y < self.now.size }
         ensures { MatchOption result ((c : ℤ) → Path self.now.edges x y c → ⊥) (λ c. IsLeast self.now.edges x y c) }
     {
-        self.matrix[(x * self.size + y) as usize]
+        self.matrix[x as usize * self.size as usize + y as usize]
     }
 }

@@ -9,4 +9,4 @@ mod matrix;
 #[cfg(test)]
 mod tests;
 
-pub use bounds::{Bounds, Edge, is_small};
+pub use bounds::{Bounds, Edge, MOST_POINTS, is_small};

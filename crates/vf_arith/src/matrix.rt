@@ -20,9 +20,9 @@ fn lesser_of(a: Option<i128>, b: Option<i128>) -> Option<i128>
 
 /// The distance over an edge.
 fn way_over(before: Option<i128>, most: i128, after: Option<i128>) -> Option<i128>
-    requires before { (v : ℤ) → before ≡ Some v → IsSmall (2 ^ 112) v }
+    requires before { (v : ℤ) → before ≡ Some v → IsSmall (2 ^ 124) v }
     requires most { IsSmall (2 ^ 100) most }
-    requires after { (v : ℤ) → after ≡ Some v → IsSmall (2 ^ 112) v }
+    requires after { (v : ℤ) → after ≡ Some v → IsSmall (2 ^ 124) v }
     ensures { result ≡ over_edge before most after }
 {
     match (before, after) {
@@ -38,14 +38,14 @@ pub fn row(
     size: u32,
     y: u32,
 ) -> Result<Vec<Option<i128>>, Memory>
-    requires few { size ≤ 4096 }
+    requires few { size ≤ 2 ^ 24 }
     requires long { length matrix.now ≡ size * size }
     requires point { y < size }
     ensures { IfOk result (λ v. (length v.items ≡ size) × ((k : ℕ) → k < size → entry v.items k ≡ distance size matrix.now y k)) }
 {
     let mut out = Vec::new(alloc);
     for k in 0..size {
-        out.push(matrix[(y * size + k) as usize])?;
+        out.push(matrix[y as usize * size as usize + k as usize])?;
     }
     Ok(out)
 }
@@ -57,14 +57,14 @@ pub fn column(
     size: u32,
     x: u32,
 ) -> Result<Vec<Option<i128>>, Memory>
-    requires few { size ≤ 4096 }
+    requires few { size ≤ 2 ^ 24 }
     requires long { length matrix.now ≡ size * size }
     requires point { x < size }
     ensures { IfOk result (λ v. (length v.items ≡ size) × ((k : ℕ) → k < size → entry v.items k ≡ distance size matrix.now k x)) }
 {
     let mut out = Vec::new(alloc);
     for k in 0..size {
-        out.push(matrix[(k * size + x) as usize])?;
+        out.push(matrix[k as usize * size as usize + x as usize])?;
     }
     Ok(out)
 }
@@ -77,7 +77,7 @@ pub fn relax(
     most: i128,
     after: &[Option<i128>],
 )
-    requires few { length before.now ≤ 4096 }
+    requires few { length before.now ≤ 2 ^ 24 }
     requires long { length matrix.old ≡ length before.now * length before.now }
     requires same { length after.now ≡ length before.now }
     requires before { AreSmall before.now }
@@ -93,7 +93,7 @@ pub fn relax(
 
 /// Whether the way back over an edge makes a cycle below 0.
 pub fn closes_below(back: Option<i128>, most: i128) -> bool
-    requires back { (v : ℤ) → back ≡ Some v → IsSmall (2 ^ 112) v }
+    requires back { (v : ℤ) → back ≡ Some v → IsSmall (2 ^ 124) v }
     requires most { IsSmall (2 ^ 100) most }
     ensures { IsTrue result ↔ ((t : ℤ) × (back ≡ Some t) × ((t +ℤ most) <ℤ pos 0)) }
 {
@@ -105,10 +105,11 @@ pub fn closes_below(back: Option<i128>, most: i128) -> bool
 
 /// The distances where there is no edge: 0 from each point to itself, and none between two.
 pub fn without_edges(alloc: Global, size: u32) -> Result<Vec<Option<i128>>, Memory>
-    requires few { size ≤ 4096 }
+    requires few { size ≤ 2 ^ 24 }
     ensures long { IfOk result (λ v. length v.items ≡ size * size) }
     ensures entries { IfOk result (λ v. (k : ℕ) → k < size * size → entry v.items k ≡ (if k / size == k % size then Some (pos 0) else None)) }
 {
+    let size = size as usize;
     let mut matrix = Vec::new(alloc);
     for k in 0..size * size {
         matrix.push(if k / size == k % size { Some(0) } else { None })?;

@@ -1,7 +1,6 @@
 -- What one more fact or term adds to classes and bounds.
-use Rattle.std.proofs.Common.{◌≡◌, ℕ, ◌+◌, ◌<◌, ◌⊎◌, inl, inr, List, [], ◌∷◌, ◌++◌, length, Some, refl, sym, ◌∙◌, ap, subst, arith, get_or}
-use Rattle.std.specs.Prelude.{ℤ, pos, neg_ℤ, ◌+ℤ◌, ◌≤ℤ◌, ◌<ℤ◌, ◌^◌, Contains, All, slice_get, slice_index}
-use Rattle.std.proofs.lemmas.Int.{ints}
+use Rattle.std.proofs.Common.{◌≡◌, ℕ, ◌<◌, inl, inr, List, [], ◌∷◌, ◌++◌, refl, sym, ◌∙◌, ap, subst, arith}
+use Rattle.std.specs.Prelude.{ℤ, pos, neg_ℤ, ◌^◌, Contains, All, slice_index}
 use Rattle.std.proofs.lemmas.Option.{slice_get_within, get_or_from_slice_get}
 use Rattle.std.proofs.lemmas.List.Elements.{Contains-push, Contains-append_left, Contains-push_cases}
 use Rattle.vf_table.specs.declared.node.Head.TheVariants.{Number}
@@ -13,8 +12,8 @@ use Rattle.vf_arith.specs.Paths.{IsSmall}
 use Rattle.vf_refute.specs.declared.steps.Fact.{Fact}
 use Rattle.vf_refute.specs.declared.steps.Fact.TheVariants as fs
 use Rattle.vf_refute.specs.Closure.{Same, given, Bound, most, difference_up, difference_down, sum_up, sum_down, number_up, number_down}
-use Rattle.vf_ground.specs.Held.{edge, HasBoth, HasFact, HasTerm, AreSound, HaveGrown, HasGained, HaveBoundsGrown, HasSmallNumber}
-use Rattle.vf_ground.proofs.Closed.{grown_none, grown_join, grown_edge}
+use Rattle.vf_ground.specs.Held.{edge, HasBoth, HasFact, HasTerm, AreSound, HasGained, HaveBoundsGrown, HasSmallNumber}
+use Rattle.vf_ground.proofs.Closing.{grown_join, grown_edge}
 
 kept_edge : (edges edges' : List Edge) (x : Edge) → edges' ≡ edges ++ x ∷ [] → (f : Edge) → Contains edges f → Contains edges' f
 kept_edge edges edges' x is f h = subst (λ (l : List Edge). Contains l f) (sym is) (Contains-append_left edges (x ∷ []) f h)

@@ -1,3 +1,3 @@
-pub mod Closed
+pub mod Closing
 pub mod Gained
 pub mod Verdicts

@@ -1,16 +1,17 @@
 -- What classes and bounds say at the end of the question.
-use Rattle.std.proofs.Common.{◌≡◌, ℕ, ◌+◌, ◌<◌, ◌⊎◌, inl, inr, List, length, Some, refl, sym, ◌∙◌, ap, subst, arith, Bool, true, false}
-use Rattle.std.specs.Prelude.{ℤ, pos, neg_ℤ, Contains, All}
+use Rattle.std.proofs.Common.{◌≡◌, ℕ, ◌<◌, List, length, refl, sym, ◌∙◌, subst, Bool, true, false}
+use Rattle.std.specs.Prelude.{◌↔◌, Contains}
 use Rattle.std.specs.Bool.{MatchBool}
 use Rattle.vf_table.specs.declared.node.Node.{Node}
-use Rattle.vf_congruence.specs.Congruence.{WereMerged}
+use Rattle.vf_congruence.specs.Congruence.{Congruent, WereMerged, Merges}
 use Rattle.vf_arith.specs.declared.bounds.Edge.{Edge}
 use Rattle.vf_arith.specs.Paths.{HasNegativeCycle}
 use Rattle.vf_refute.specs.declared.steps.Fact.{Fact}
 use Rattle.vf_refute.specs.declared.steps.Fact.TheVariants as fs
-use Rattle.vf_refute.specs.Closure.{Conflict, clash, denied_equality, denied_difference, falsehood}
+use Rattle.vf_refute.specs.Closure.{Same, Conflict, clash, denied_equality, denied_difference, falsehood}
 use Rattle.vf_ground.specs.Held.{HasFact, HasTerm, AreSound, AreComplete, AllAgree, ShowNoConflict, HaveGrown, HaveBoundsGrown, IsContradicted, Clash, IsFine}
-use Rattle.vf_ground.proofs.Closed.{same_by, near_by, no_conflict}
+use Rattle.vf_ground.specs.Closures.{AreItsClasses}
+use Rattle.vf_ground.proofs.Closing.{same_by, near_by, no_conflict, cycle_by, same_in}
 use Rattle.vf_ground.proofs.Gained.{fact_kept, term_kept}
 
 module _ (nodes : List Node) (facts : List Fact) (merged : List (ℕ × ℕ)) (edges : List Edge) (sound : AreSound nodes facts merged edges) where
@@ -53,3 +54,12 @@ final_complete n1 k n3 facts m1 e1 e2 m3 e3 q r has terms a g settled =
       terms_in = λ x i. term_kept n3 e2 e3 g.edges_kept x (subst (λ (n : List Node). (y : ℕ) → y < length n → HasTerm n e2 y) (q ∙ sym r) terms x i);
       settled = settled;
     }
+
+-- where there is no conflict, terms are in one class exactly where they are equal
+pub classes_are : (nodes : List Node) (facts : List Fact) (c : Merges) (edges : List Edge) → c.nodes ≡ nodes → AreSound c.nodes facts c.merged edges → ((HasNegativeCycle edges → ⊥) → AreComplete c.nodes facts c.merged edges) → (Conflict c.nodes facts → ⊥)
+    → (Conflict nodes facts → ⊥) × AreItsClasses nodes facts c
+classes_are nodes facts c edges k sound complete none =
+    let whole = complete (λ h. none (cycle_by c.nodes facts c.merged edges sound h)) in (
+      subst (λ (ns : List Node). Conflict ns facts → ⊥) k none,
+      record { table = k; exact = λ a b. subst (λ (ns : List Node). Congruent c.nodes (WereMerged c.merged) a b ↔ Same ns facts a b) k (same_by c.nodes facts c.merged edges sound, same_in c.nodes facts c.merged edges whole) },
+    )

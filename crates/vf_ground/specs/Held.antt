@@ -1,5 +1,5 @@
 -- What the classes and bounds of a question hold, and when that is its closure.
-use Rattle.std.specs.Prelude.{◌≡◌, ℕ, ◌<◌, ◌^◌, ℤ, pos, neg_ℤ, ◌≤ℤ◌, List, length, Contains, Some, slice_get}
+use Rattle.std.specs.Prelude.{◌≡◌, ℕ, ◌<◌, ◌^◌, ℤ, pos, neg_ℤ, ◌≤ℤ◌, List, length, Contains}
 use Rattle.vf_table.specs.declared.node.Head.TheVariants.{Number}
 use Rattle.vf_table.specs.declared.node.Node.{Node}
 use Rattle.vf_table.specs.Tables.{IsInteger, IsNumber, IsPlus, HaveClashingHeads}

@@ -133,7 +133,7 @@ fn add_number(
     number: i128,
 ) -> Result<(), Memory>
     requires size { bounds.old.size ≡ length nodes.now }
-    requires few { length nodes.now ≤ 4096 }
+    requires few { length nodes.now ≤ 2 ^ 24 }
     requires term { a < length nodes.now }
     requires number { IsNumber nodes.now a number }
     requires small { IsSmall (2 ^ 100) number }
@@ -150,7 +150,7 @@ fn add_number(
 /// Adds the bounds that a term has as a number, if it is one.
 fn add_as_number(alloc: Global, nodes: &[Node], bounds: &mut Bounds, a: u32) -> Result<(), Memory>
     requires size { bounds.old.size ≡ length nodes.now }
-    requires few { length nodes.now ≤ 4096 }
+    requires few { length nodes.now ≤ 2 ^ 24 }
     requires small { All HasSmallNumber nodes.now }
     requires term { a < length nodes.now }
     ensures size { bounds.new.size ≡ bounds.old.size }
@@ -188,7 +188,7 @@ fn add_as_sum(alloc: Global, nodes: &[Node], bounds: &mut Bounds, a: u32) -> Res
 /// Adds the bounds that a term has of itself.
 fn add_term(alloc: Global, nodes: &[Node], bounds: &mut Bounds, a: u32) -> Result<(), Memory>
     requires size { bounds.old.size ≡ length nodes.now }
-    requires few { length nodes.now ≤ 4096 }
+    requires few { length nodes.now ≤ 2 ^ 24 }
     requires parts { PartsAreBelow nodes.now (length nodes.now) }
     requires small { All HasSmallNumber nodes.now }
     requires term { a < length nodes.now }
@@ -204,7 +204,7 @@ fn add_term(alloc: Global, nodes: &[Node], bounds: &mut Bounds, a: u32) -> Resul
 /// Adds the bounds that the terms have of themselves.
 pub fn add_terms(alloc: Global, nodes: &[Node], bounds: &mut Bounds) -> Result<(), Memory>
     requires size { bounds.old.size ≡ length nodes.now }
-    requires few { length nodes.now ≤ 4096 }
+    requires few { length nodes.now ≤ 2 ^ 24 }
     requires parts { PartsAreBelow nodes.now (length nodes.now) }
     requires small { All HasSmallNumber nodes.now }
     ensures size { bounds.new.size ≡ bounds.old.size }

@@ -12,4 +12,4 @@ mod tests;
 mod verdict;
 
 pub use fine::{are_fine, numbers_are_small};
-pub use verdict::is_refuted;
+pub use verdict::{Closed, close, is_refuted};

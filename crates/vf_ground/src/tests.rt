@@ -1,6 +1,6 @@
 //! Tables of questions.
 
-use crate::{are_fine, is_refuted, numbers_are_small};
+use crate::{Closed, are_fine, close, is_refuted, numbers_are_small};
 use std::alloc::Global;
 use std::test::Fail;
 use vf_base::Memory;
@@ -42,9 +42,6 @@ fn terms(alloc: Global) -> Result<Vec<Node>, Memory> {
 /// The verdict on facts, none where they are no question.
 fn verdict(alloc: Global, facts: &[Fact]) -> Result<Option<bool>, Memory> {
     let nodes = terms(alloc)?;
-    if nodes.len() > 4096 {
-        return Ok(None);
-    }
     if !parts_are_below(&nodes) {
         return Ok(None);
     }
@@ -55,6 +52,48 @@ fn verdict(alloc: Global, facts: &[Fact]) -> Result<Option<bool>, Memory> {
         return Ok(None);
     }
     Ok(Some(is_refuted(alloc, nodes, facts)?))
+}
+
+/// Whether two terms are equal by facts, none where the facts are no question or have a conflict.
+fn are_equal(alloc: Global, facts: &[Fact], a: u32, b: u32) -> Result<Option<bool>, Memory> {
+    let nodes = terms(alloc)?;
+    if !parts_are_below(&nodes) {
+        return Ok(None);
+    }
+    if !numbers_are_small(&nodes) {
+        return Ok(None);
+    }
+    if !are_fine(&nodes, facts) {
+        return Ok(None);
+    }
+    match close(alloc, nodes, facts)? {
+        Closed::Conflict => Ok(None),
+        Closed::Classes(classes) => {
+            if a >= classes.size() || b >= classes.size() {
+                return Ok(None);
+            }
+            Ok(Some(classes.same(a, b)))
+        }
+    }
+}
+
+#[test]
+fn classes_are_told(rt: HostRuntime) -> Result<(), Fail> {
+    let cases: [(&[Fact], u32, u32, Option<bool>); 4] = [
+        (
+            &[Fact::AtMost(1, 2, 0), Fact::AtMost(2, 1, 0)],
+            3,
+            4,
+            Some(true),
+        ),
+        (&[Fact::AtMost(1, 2, 0)], 3, 4, Some(false)),
+        (&[], 3, 3, Some(true)),
+        (&[Fact::Equal(8, 9)], 3, 3, None),
+    ];
+    for (facts, a, b, equal) in cases {
+        assert_eq!(rt; are_equal(rt.alloc(), facts, a, b)?, equal);
+    }
+    Ok(())
 }
 
 #[test]

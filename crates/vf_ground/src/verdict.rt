@@ -1,15 +1,16 @@
 //! The verdict on a question.
 
-ghost use Rattle.std.specs.Prelude.{◌≡◌, ◌<◌, ◌≤◌, ◌↔◌, ℕ, length, All, Contains, IsTrue, IfOk, MatchBool};
+ghost use Rattle.std.specs.Prelude.{◌≡◌, ◌<◌, ◌↔◌, ℕ, length, All, Contains, IsTrue, IfOk, MatchBool};
 ghost use Rattle.vf_table.specs.Tables.{PartsAreBelow};
 ghost use Rattle.vf_arith.specs.Paths.{HasNegativeCycle};
 ghost use Rattle.vf_refute.specs.Closure.{Conflict};
 ghost use Rattle.vf_ground.specs.Held.{AreSound, AreComplete, IsFine, HasSmallNumber, IsContradicted, Clash};
+ghost use Rattle.vf_ground.specs.Closures.{IsClosureOf};
 
 use crate::exchange::{exchange, is_near};
 use crate::gather::{add_facts, add_terms};
 use std::alloc::Global;
-use vf_arith::Bounds;
+use vf_arith::{Bounds, MOST_POINTS};
 use vf_base::Memory;
 use vf_congruence::Classes;
 use vf_refute::Fact;
@@ -96,18 +97,45 @@ fn decide(classes: &Classes, bounds: &Bounds, facts: &[Fact]) -> bool
     contradict_one(classes, bounds, facts)
 }
 
-/// Whether the closure of the facts has a conflict.
-pub fn is_refuted(alloc: Global, nodes: Vec<Node>, facts: &[Fact]) -> Result<bool, Memory>
-    requires few { length nodes.items ≤ 4096 }
+/// The closure of facts over a table.
+#[derive(Drop)]
+pub enum Closed {
+    /// It has a conflict.
+    Conflict,
+    /// It has none, and these are the classes of its equal terms.
+    Classes(Classes),
+}
+
+/// The closure of the facts.
+pub fn close(alloc: Global, nodes: Vec<Node>, facts: &[Fact]) -> Result<Closed, Memory>
     requires parts { PartsAreBelow nodes.items (length nodes.items) }
     requires small { All HasSmallNumber nodes.items }
     requires fine { All (IsFine nodes.items) facts.now }
-    ensures exact { IfOk result (λ yes. IsTrue yes ↔ Conflict nodes.items facts.now) }
+    ensures { IfOk result (λ c. IsClosureOf nodes.items facts.now c) }
 {
+    if nodes.len() > MOST_POINTS as usize {
+        return Err(Memory);
+    }
     let mut bounds = Bounds::new(alloc, nodes.len() as u32)?;
     let mut classes = Classes::new(alloc, nodes)?;
     add_facts(alloc, &mut classes, &mut bounds, facts)?;
     add_terms(alloc, classes.nodes(), &mut bounds)?;
     exchange(alloc, &mut classes, &mut bounds)?;
-    Ok(decide(&classes, &bounds, facts))
+    if decide(&classes, &bounds, facts) {
+        return Ok(Closed::Conflict);
+    }
+    Ok(Closed::Classes(classes))
+}
+
+/// Whether the closure of the facts has a conflict.
+pub fn is_refuted(alloc: Global, nodes: Vec<Node>, facts: &[Fact]) -> Result<bool, Memory>
+    requires parts { PartsAreBelow nodes.items (length nodes.items) }
+    requires small { All HasSmallNumber nodes.items }
+    requires fine { All (IsFine nodes.items) facts.now }
+    ensures exact { IfOk result (λ yes. IsTrue yes ↔ Conflict nodes.items facts.now) }
+{
+    match close(alloc, nodes, facts)? {
+        Closed::Conflict => Ok(true),
+        Closed::Classes(_) => Ok(false),
+    }
 }

@@ -1,7 +1,7 @@
 use Rattle.std.proofs.Common.{subst, List}
 use Rattle.vf_table.specs.declared.node.Node.{Node}
 use Rattle.vf_ground.specs.Held.{HaveGrown}
-use Rattle.vf_ground.proofs.Closed.{grown_join}
+use Rattle.vf_ground.proofs.Closing.{grown_join}
 use Rattle.vf_ground.proofs.exchange.exchange.Goals as goal
 
 pub returns-then-conflict-2-clause-grown : goal.returns-then-conflict-2-clause-grown

@@ -1,5 +1,5 @@
 use Rattle.vf_refute.specs.Closure.{level, squeezed}
-use Rattle.vf_ground.proofs.Closed.{grown_edge, grown_merge, same_by, near_by}
+use Rattle.vf_ground.proofs.Closing.{grown_edge, grown_merge, same_by, near_by}
 use Rattle.vf_ground.proofs.exchange.supply.Goals as goal
 
 pub returns-in_ok-add-in-OfBound-clause-grown : goal.returns-in_ok-add-in-OfBound-clause-grown

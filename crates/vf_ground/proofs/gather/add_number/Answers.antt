@@ -5,7 +5,7 @@ use Rattle.std.specs.Prelude.{pos}
 use Rattle.vf_table.specs.Tables.{IsNumber}
 use Rattle.vf_ground.specs.Held.{HasBoth}
 use Rattle.vf_ground.proofs.Gained.{both_kept}
-use Rattle.vf_ground.proofs.Closed.{grown_join}
+use Rattle.vf_ground.proofs.Closing.{grown_join}
 use Rattle.vf_ground.proofs.gather.add_number.Goals as goal
 
 pub loop-zero-preserved : goal.loop-zero-preserved

@@ -1,5 +1,5 @@
 use Rattle.vf_ground.proofs.Gained.{both_kept}
-use Rattle.vf_ground.proofs.Closed.{grown_join}
+use Rattle.vf_ground.proofs.Closing.{grown_join}
 use Rattle.std.proofs.Common.{[]}
 use Rattle.vf_ground.proofs.gather.add_term.Goals as goal
 

@@ -1,7 +1,7 @@
 use Rattle.std.proofs.Common.{◌∙◌, below_more, []}
 use Rattle.vf_ground.specs.Held.{HasTerm}
 use Rattle.vf_ground.proofs.Gained.{term_kept}
-use Rattle.vf_ground.proofs.Closed.{grown_join}
+use Rattle.vf_ground.proofs.Closing.{grown_join}
 use Rattle.vf_ground.proofs.gather.add_terms.Goals as goal
 
 pub loop-a-preserved : goal.loop-a-preserved

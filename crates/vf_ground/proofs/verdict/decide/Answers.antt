@@ -1,7 +1,7 @@
 use Rattle.std.proofs.Common.{◌≡◌, refl, true, false}
 use Rattle.std.proofs.lemmas.List.Elements.{All-contains}
 use Rattle.vf_ground.specs.Held.{IsFine}
-use Rattle.vf_ground.proofs.Closed.{cycle_by}
+use Rattle.vf_ground.proofs.Closing.{cycle_by}
 use Rattle.vf_ground.proofs.Verdicts.{clash_is, verdict_is}
 use Rattle.vf_ground.proofs.verdict.decide.Goals as goal
 

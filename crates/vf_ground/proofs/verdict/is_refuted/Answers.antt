@@ -1,19 +1,9 @@
-use Rattle.std.proofs.Common.{◌∙◌, subst, List, IsTrue, ◌↔◌}
-use Rattle.vf_table.specs.declared.node.Node.{Node}
-use Rattle.vf_refute.specs.Closure.{Conflict}
-use Rattle.vf_ground.proofs.Verdicts.{final_sound, final_complete}
+use Rattle.std.proofs.Common.{refl}
 use Rattle.vf_ground.proofs.verdict.is_refuted.Goals as goal
-
-pub decide-requires-clause-sound : goal.decide-requires-clause-sound
-decide-requires-clause-sound c = final_sound c.in_ok-classes.classes.nodes c.add_facts.new.classes.nodes c.nodes.result.now c.exchange.new.classes.nodes c.args.facts.now c.add_facts.new.classes.merged c.add_facts.new.bounds.edges c.add_terms.new.bounds.edges c.exchange.new.classes.merged c.exchange.new.bounds.edges
-    c.in_ok-add_facts.ensures.nodes c.nodes.ensures c.in_ok-exchange.ensures.nodes c.in_ok-add_facts.ensures.sound c.in_ok-add_terms.ensures.added c.in_ok-exchange.ensures.grown
-
-pub decide-requires-clause-complete : goal.decide-requires-clause-complete
-decide-requires-clause-complete c = λ fine. final_complete c.add_facts.new.classes.nodes c.nodes.result.now c.exchange.new.classes.nodes c.args.facts.now c.add_facts.new.classes.merged c.add_facts.new.bounds.edges c.add_terms.new.bounds.edges c.exchange.new.classes.merged c.exchange.new.bounds.edges
-    c.nodes.ensures c.in_ok-exchange.ensures.nodes c.in_ok-add_facts.ensures.has c.in_ok-add_terms.ensures.has c.in_ok-add_terms.ensures.added c.in_ok-exchange.ensures.grown (c.in_ok-exchange.ensures.settled fine)
+use Rattle.vf_ground.proofs.verdict.is_refuted.Goals.{in-Conflict, in-Classes}
 
 pub returns : goal.returns
-returns c = record {
-  exact = subst (λ (n : List Node). IsTrue c.decide.result ↔ Conflict n c.args.facts.now)
-      (c.in_ok-exchange.ensures.nodes ∙ c.in_ok-add_facts.ensures.nodes ∙ c.in_ok-classes.ensures.0) c.decide.ensures;
-}
+returns c = let h = c.in_ok-close.ensures in elim c.match-branch-2.branch [
+  | in-Conflict w ↦ rw w.result-is (record { exact = (λ t. rw w.in-Conflict.is at h, λ k. refl) })
+  | in-Classes w ↦ rw w.result-is (record { exact = (λ t. absurd (cc), λ k. absurd ((rw w.in-Classes.is at h).0 k)) })
+]

@@ -1,18 +1,18 @@
 -- Classes and bounds that agree hold the closure: it is the least that has the facts and what the terms give.
-use Rattle.std.proofs.Common.{◌≡◌, ℕ, ◌+◌, ◌<◌, ◌⊎◌, inl, inr, List, [], ◌∷◌, ◌++◌, length, Some, refl, sym, ◌∙◌, ap, subst, arith}
-use Rattle.std.specs.Prelude.{ℤ, pos, negsuc, neg_ℤ, ◌+ℤ◌, ◌≤ℤ◌, ◌<ℤ◌, Contains, slice_get, slice_index}
+use Rattle.std.proofs.Common.{◌≡◌, ℕ, ◌<◌, ◌⊎◌, inl, inr, List, [], ◌∷◌, ◌++◌, length, refl, sym, subst, arith}
+use Rattle.std.specs.Prelude.{ℤ, pos, ◌+ℤ◌, ◌≤ℤ◌, Contains}
 use Rattle.std.proofs.lemmas.Int.{ints}
 use Rattle.std.proofs.lemmas.Option.{slice_get_within}
-use Rattle.std.proofs.lemmas.List.Elements.{Contains-push, Contains-append_left, Contains-push_cases}
+use Rattle.std.proofs.lemmas.List.Elements.{Contains-append_left, Contains-push_cases}
 use Rattle.vf_table.specs.declared.node.Node.{Node}
-use Rattle.vf_table.specs.Tables.{IsInteger, IsNumber, IsPlus, HaveClashingHeads}
+use Rattle.vf_table.specs.Tables.{IsInteger}
 use Rattle.vf_congruence.specs.Congruence.{Congruent, based, congruent_self, congruent_back, congruent_through, by_parts, of_parts, WereMerged}
 use Rattle.vf_arith.specs.declared.bounds.Edge.{Edge}
 use Rattle.vf_arith.specs.Paths.{Path, path_none, path_edge, HasNegativeCycle}
 use Rattle.vf_refute.specs.declared.steps.Fact.{Fact}
 use Rattle.vf_refute.specs.declared.steps.Fact.TheVariants as fs
 use Rattle.vf_refute.specs.Closure.{Same, given, same_self, same_back, same_through, congruent, injective, squeezed, Bound, most, difference_up, difference_down, still, weaker, sum_up, sum_down, number_up, number_down, chain, level, Conflict, below_itself, clash, denied_equality, denied_difference, falsehood}
-use Rattle.vf_ground.specs.Held.{IsNear, edge, HasBoth, HasFact, HasTerm, Agree, AreSound, AreComplete, ShowNoConflict, HaveGrown}
+use Rattle.vf_ground.specs.Held.{IsNear, edge, AreSound, AreComplete, ShowNoConflict, HaveGrown}
 
 module _ (nodes : List Node) (facts : List Fact) (merged : List (ℕ × ℕ)) (edges : List Edge) where
   -- what follows in the tables is in the closure
