@@ -102,7 +102,7 @@ part_of_zero : (p : Term) (i : ℕ) (h : Head) (ps : Terms) → IsAt p i ps → 
 part_of_zero p i h ps here e = cc
 part_of_zero p i h ps (further_on a) e = cc
 
-part_arises : (ls : List Literal) (d : ℕ) (h : Head) (ps : Terms) (p : Term) (i : ℕ) (t : Term) → Arises no_unfoldings ls d t → t ≡ term h ps → IsAt p i ps → Arises no_unfoldings ls zero p
+pub part_arises : (ls : List Literal) (d : ℕ) (h : Head) (ps : Terms) (p : Term) (i : ℕ) (t : Term) → Arises no_unfoldings ls d t → t ≡ term h ps → IsAt p i ps → Arises no_unfoldings ls zero p
 part_arises ls d h ps p i t (asked {l} {s} c k w) e a = asked {l = l} {s = s} c k (within_through (below a itself) (subst (λ (x : Term). IsWithin x s) e w))
 part_arises ls d h ps p i t zero_arises e a = absurd (part_of_zero p i h ps a (sym e))
 part_arises ls d h ps p i t (deeper {d = c} j b) e a = part_arises ls c h ps p i t b e a

@@ -10,7 +10,8 @@ use Rattle.vf_closure.specs.Literals.{Literal}
 use Rattle.vf_closure.specs.Closure.{Unfoldings, Arises, asked, zero_arises, deeper, in_body, in_case}
 use Rattle.vf_normal.specs.Order.{compare}
 use Rattle.vf_question.specs.Numbered.{with_term}
-use Rattle.vf_question.specs.Unfolded.{Unfolding, IsAskedFor, of_body, of_case, WasMade}
+use Rattle.vf_question.specs.declared.unfolding.Unfolding.{Unfolding}
+use Rattle.vf_question.specs.Unfolded.{IsAskedFor, of_body, of_case, WasMade}
 use Rattle.vf_question.specs.Ends.{unfolding_to, unfoldings_of, reach, possible_below, is_one, is_made, UnfoldingEnds}
 use Rattle.vf_question.proofs.Places.{one_own, one_told}
 use Rattle.vf_question.proofs.Has.{Has, contains_has, has_contains, has_before, term_has}
@@ -18,7 +19,7 @@ use Rattle.vf_question.proofs.Asked.{has_arising}
 use Rattle.vf_question.proofs.Settled.{next_asked, below_four}
 
 -- ---- lists
-has_behind : {A : Type 0} (xs ys : List A) (x : A) → Has ys x → Has (xs ++ ys) x
+pub has_behind : {A : Type 0} (xs ys : List A) (x : A) → Has ys x → Has (xs ++ ys) x
 has_behind [] ys x h = h
 has_behind (z ∷ zs) ys x h = inr (has_behind zs ys x h)
 

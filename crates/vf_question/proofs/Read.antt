@@ -22,7 +22,6 @@ use Rattle.vf_normal.proofs.Order.{heads_told, heads_total}
 use Rattle.std.specs.Cmp.{tied_itself}
 use Rattle.vf_reading.specs.Reading.{StandsFor, a_number, a_truth, a_null, a_function, a_constructor, a_plus, an_integer, another, in_row, IsReading, IsTableOf, IsInside, literal}
 use Rattle.vf_question.specs.Numbered.{place, with_one, with_literals, terms_of, all_terms, IsGathered}
-use Rattle.vf_question.specs.declared.numbering.TheConstants.{MOST_TERMS}
 use Rattle.vf_question.specs.Tabled.{head_place, opaque, tabled_head, places, tabled, entries, tabled_fact}
 use Rattle.vf_question.specs.Questions.{AreLeaves, at, IsQuestion}
 use Rattle.vf_question.specs.declared.question.Question.{Question}
@@ -268,13 +267,17 @@ is_question ls q leaves same told = record {
   inside = is_inside ls q.nodes.items same q.facts.items told;
 }
 
--- the same, of what the steps to it found
-pub gathered_question : (ls : List Literal) (b : Bool) (start first last : List Term) (zero_term : Term) (q : Question)
-    → AreLeaves ls → start ≡ [] → IsGathered b (with_literals ls start) first → b ≡ true → zero_term ≡ number (pos 0) → last ≡ with_one zero_term first
-    → map entries q.nodes.items ≡ map (tabled last) last → q.facts.items ≡ map (tabled_fact last) ls → (length (terms_of ls) ≤ MOST_TERMS) × IsQuestion ls q
-gathered_question ls false start first last t q leaves s g e z w n f = cc
-gathered_question ls true start first last t q leaves s g e z w n f =
-    let k : last ≡ all_terms ls = w ∙ ap₂ with_one z (g.0 ∙ ap (with_literals ls) s) in (
-      subst (λ (ts : List Term). length (with_literals ls ts) ≤ MOST_TERMS) s g.1,
-      is_question ls q leaves (subst (λ (ts : List Term). map entries q.nodes.items ≡ map (tabled ts) ts) k n) (subst (λ (ts : List Term). q.facts.items ≡ map (tabled_fact ts) ls) k f),
-    )
+-- the same, where the terms are given
+pub question_over : (ls : List Literal) (last : List Term) (q : Question) → AreLeaves ls → last ≡ all_terms ls → map entries q.nodes.items ≡ map (tabled last) last → q.facts.items ≡ map (tabled_fact last) ls → IsQuestion ls q
+question_over ls last q leaves k n f = is_question ls q leaves (subst (λ (ts : List Term). map entries q.nodes.items ≡ map (tabled ts) ts) k n) (subst (λ (ts : List Term). q.facts.items ≡ map (tabled_fact ts) ls) k f)
+
+-- the terms that were gathered, and 0
+pub gathered_terms : (ls : List Literal) (most : ℕ) (b : Bool) (start first last : List Term) (zero_term : Term)
+    → start ≡ [] → IsGathered most b (with_literals ls start) first → b ≡ true → zero_term ≡ number (pos 0) → last ≡ with_one zero_term first → (length (terms_of ls) ≤ most) × (last ≡ all_terms ls)
+gathered_terms ls most false start first last t s g e z w = cc
+gathered_terms ls most true start first last t s g e z w = (subst (λ (ts : List Term). length (with_literals ls ts) ≤ most) s g.1, w ∙ ap₂ with_one z (g.0 ∙ ap (with_literals ls) s))
+
+-- and where they are too many
+pub not_gathered : (ls : List Literal) (most : ℕ) (b : Bool) (start first : List Term) → start ≡ [] → IsGathered most b (with_literals ls start) first → b ≡ false → most < length (terms_of ls)
+not_gathered ls most true start first s g e = cc
+not_gathered ls most false start first s g e = subst (λ (ts : List Term). most < length (with_literals ls ts)) s g

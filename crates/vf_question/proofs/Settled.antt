@@ -10,7 +10,8 @@ use Rattle.vf_closure.specs.Closure.{Unfoldings, no_unfoldings, Arises, asked, z
 use Rattle.vf_closure.specs.Made.{IsMade, AreAllMade}
 use Rattle.vf_closure.proofs.Enough.{unfoldings_enough}
 use Rattle.vf_question.specs.Numbered.{place, with_term, all_terms}
-use Rattle.vf_question.specs.Unfolded.{Unfolding, equations, is_in, least_depth, depth_of, IsAskedFor, of_body, of_case, IsKnown, in_question, in_unfolding, AreRight, IsNext, next_body, next_case, NextIsRight, RightIsSound, WasMade, AreSettled, SettledIsEnough}
+use Rattle.vf_question.specs.declared.unfolding.Unfolding.{Unfolding}
+use Rattle.vf_question.specs.Unfolded.{equations, is_in, least_depth, depth_of, IsAskedFor, of_body, of_case, IsKnown, in_question, in_unfolding, AreRight, IsNext, next_body, next_case, NextIsRight, RightIsSound, WasMade, AreSettled, SettledIsEnough}
 use Rattle.vf_question.proofs.Has.{Has, contains_has, has_contains, has_place, place_has, term_has, term_only}
 use Rattle.vf_question.proofs.Asked.{has_arising, term_arises, within_zero, within_through}
 
@@ -21,10 +22,10 @@ in_has t ts e = place_has t ts (ltb-true (place t ts) (length ts) e)
 pub has_in : (t : Term) (ts : List Term) → Has ts t → is_in t ts ≡ true
 has_in t ts h = lt-ltb (place t ts) (length ts) (has_place t ts h)
 
-in_body_within : (t b : Term) → is_in t (with_term b []) ≡ true → IsWithin t b
+pub in_body_within : (t b : Term) → is_in t (with_term b []) ≡ true → IsWithin t b
 in_body_within t b e = elim (term_only b [] t (in_has t (with_term b []) e)) [ inl k ↦ absurd k | inr w ↦ w ]
 
-within_in_body : (t b : Term) → IsWithin t b → is_in t (with_term b []) ≡ true
+pub within_in_body : (t b : Term) → IsWithin t b → is_in t (with_term b []) ≡ true
 within_in_body t b w = has_in t (with_term b []) (term_has b [] t w)
 
 -- ---- depths
@@ -120,7 +121,7 @@ equation_of [] l h = absurd h
 equation_of (m ∷ ms) l (inl e) = record { found = m; stands = inl refl; is = e }
 equation_of (m ∷ ms) l (inr h) = let r = equation_of ms l h in record { found = r.found; stands = inr r.stands; is = r.is }
 
-has_equation : (ms : List Unfolding) (m : Unfolding) → Has ms m → Has (equations ms) (Equal m.application m.body)
+pub has_equation : (ms : List Unfolding) (m : Unfolding) → Has ms m → Has (equations ms) (Equal m.application m.body)
 has_equation [] m h = absurd h
 has_equation (k ∷ ks) m (inl e) = inl (ap (λ (x : Unfolding). Equal x.application x.body) e)
 has_equation (k ∷ ks) m (inr h) = inr (has_equation ks m h)
@@ -138,7 +139,7 @@ module _ (u : Unfoldings) (facts : List Literal) (made : List Unfolding) (right 
   compared_known : (m : Unfolding) (l : Literal) (s t : Term) → Contains made m → Equal m.application m.body ≡ l → Has (compares l) s → IsWithin t s → IsKnown facts made t
   compared_known m l s t c e h w = compared_case m s t c (subst (λ (x : Literal). Has (compares x) s) (sym e) h) w
 
-  arises_known : (d : ℕ) (t : Term) → Arises no_unfoldings (facts ++ equations made) d t → IsKnown facts made t
+  pub arises_known : (d : ℕ) (t : Term) → Arises no_unfoldings (facts ++ equations made) d t → IsKnown facts made t
   arises_known d t (asked {l} {s} c k w) = elim (Contains-append_cases facts (equations made) l c) [
     | inl q ↦ in_question (asked q k w)
     | inr q ↦ let r = equation_of made l (contains_has (equations made) l q) in compared_known r.found l s t (has_contains made r.found r.stands) r.is (contains_has (compares l) s k) w

@@ -7,7 +7,8 @@ use Rattle.vf_closure.specs.Literals.{Literal}
 use Rattle.vf_closure.specs.Closure.{Unfoldings}
 use Rattle.vf_normal.specs.Order.{compare}
 use Rattle.vf_question.specs.Numbered.{with_term, all_terms}
-use Rattle.vf_question.specs.Unfolded.{Unfolding, AreRight, IsNext, WasMade}
+use Rattle.vf_question.specs.declared.unfolding.Unfolding.{Unfolding}
+use Rattle.vf_question.specs.Unfolded.{AreRight, IsNext, WasMade}
 
 -- the unfolding of an application at a depth, if there is one
 abbrev pub unfolding_to : Term → ℕ → Option Term → List Unfolding

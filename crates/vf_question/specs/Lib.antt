@@ -1,6 +1,7 @@
 pub mod Numbered
 pub mod Tabled
 pub mod Questions
+pub mod Closures
 pub mod Plain
 pub mod Unfolded
 pub mod Ends

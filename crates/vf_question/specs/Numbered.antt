@@ -5,7 +5,6 @@ use Rattle.std.specs.Ordering.{is_eq}
 use Rattle.vf_closure.specs.Terms.{Term, Terms, term, no_terms, and_term, number}
 use Rattle.vf_closure.specs.Literals.{Literal, compares}
 use Rattle.vf_normal.specs.Order.{compare}
-use Rattle.vf_question.specs.declared.numbering.TheConstants.{MOST_TERMS}
 
 -- the place of a term in a list, counted from 0; where it is not there, how long the list is
 abbrev pub place : Term → List Term → ℕ
@@ -48,7 +47,7 @@ all_terms ls = with_term (number (pos 0)) (terms_of ls)
 abbrev pub pointed : List (Bor Term) → List Term
 pointed rs = map (λ r. r.now) rs
 
--- a list was gathered that is no longer than a question may have terms, or the wanted one is longer
-abbrev pub IsGathered : Bool → List Term → List Term → Type 0
-IsGathered true wanted found = (found ≡ wanted) × (length wanted ≤ MOST_TERMS)
-IsGathered false wanted found = MOST_TERMS < length wanted
+-- the wanted list was gathered, which is no longer than a limit, or the wanted one is longer
+abbrev pub IsGathered : ℕ → Bool → List Term → List Term → Type 0
+IsGathered most true wanted found = (found ≡ wanted) × (length wanted ≤ most)
+IsGathered most false wanted found = most < length wanted

@@ -4,17 +4,16 @@ use Rattle.vf_tree.specs.Core.{Identity}
 use Rattle.vf_closure.specs.Terms.{Constructor, Term, Terms, term, IsWithin}
 use Rattle.vf_closure.specs.Literals.{Literal, Equal}
 use Rattle.vf_closure.specs.Closure.{Unfoldings, no_unfoldings, Arises, Same, Conflict}
+use Rattle.vf_question.specs.declared.unfolding.Unfolding.{Unfolding}
 use Rattle.vf_question.specs.Numbered.{place, with_term, all_terms}
 
--- an unfolding: an application, what it was unfolded to, and a depth at which it arises, as does the term of a constructor that it was unfolded by
-pub record Unfolding : Type 0 where
-  pub application : Term
-  pub body : Term
-  pub depth : ℕ
+-- the equation of an unfolding
+abbrev pub equation : Unfolding → Literal
+equation m = Equal m.application m.body
 
 -- the equations of unfoldings
 abbrev pub equations : List Unfolding → List Literal
-equations ms = map (λ m. Equal m.application m.body) ms
+equations ms = map equation ms
 
 -- whether a term is in a list
 abbrev pub is_in : Term → List Term → Bool

@@ -6,6 +6,7 @@
 //! unfolded stands in `specs/`, with laws that say when enough was unfolded and why it ends.
 #![tactic(auto)]
 
+mod closing;
 mod laws;
 mod numbering;
 mod plain;
@@ -13,10 +14,13 @@ mod question;
 mod table;
 #[cfg(test)]
 mod tests;
+mod unfolding;
 mod verdict;
 
+pub use closing::close;
 pub use laws::{next_is_right, right_is_sound, settled_is_enough, unfolding_ends};
-pub use numbering::MOST_TERMS;
-pub use plain::are_plain;
+pub use numbering::{MOST_TERMS, all_terms, place};
+pub use plain::{are_plain, is_plain};
 pub use question::Question;
+pub use unfolding::Unfolding;
 pub use verdict::refuted;

@@ -27,7 +27,7 @@ fn is_plain_over(head: &Head, parts: &TermList) -> bool
 }
 
 /// Whether each number that stands in a term has no parts and is small.
-fn is_plain(term: &Term) -> bool
+pub fn is_plain(term: &Term) -> bool
     ensures { IsTrue result ↔ IsPlain term.now }
 {
     if !is_plain_over(&term.head, &term.parts) {

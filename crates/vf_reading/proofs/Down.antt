@@ -209,6 +209,9 @@ module _ (nodes : List Node) (meant : Head → terms.Head) (tree : ℕ → Term)
     bound_down (T.number_down h) = let p = place h in let o = place T.zero_arises in record { left = o; right = p; bound = N.number_down (number_at p) (number_at o) }
     bound_down (T.level i j h) = let d = same_down h in record { left = d.left; right = d.right; bound = N.level (is_integer d.left i) (is_integer d.right j) d.equal }
 
+  pub equal_down : (a b : ℕ) → a < length nodes → b < length nodes → T.Same no_unfoldings (map (literal tree) facts) (tree a) (tree b) → N.Same nodes facts a b
+  equal_down a b i j h = equal_at (same_down h) (record { at = a; within = i; is = refl }) (record { at = b; within = j; is = refl })
+
   clash_at : {h k : terms.Head} {xs ys : Terms} → T.AreClashing h k → Down (term h xs) (term k ys) → N.Conflict nodes facts
   clash_at {h} {k} c d = let f = found_at d.left in let g = found_at d.right in
       N.clash (f.node, g.node, f.found, g.found, H.clash_down (stands_at f) (stands_at g) (λ e. sym f.head ∙ ap meant e ∙ g.head) c) d.equal

@@ -134,6 +134,9 @@ module _ (nodes : List Node) (meant : Head → terms.Head) (tree : ℕ → Term)
     bound_up (N.number_down {a = a} {o = o} {c = c} p z) = both_ends (number_up o (pos 0) z) (number_up a c p) (T.number_down (arises_as a (number c) (slice_get_within nodes a p.0 p.1) (number_up a c p)))
     bound_up (N.level {x = x} {y = y} i j h) = T.level (integer_up x i) (integer_up y j) (up_equal (slice_get_within nodes x i.0 i.1) (same_up h))
 
+  pub equal_up : (a b : ℕ) → a < length nodes → N.Same nodes facts a b → Equal_ (tree a) (tree b)
+  equal_up a b l h = up_equal l (same_up h)
+
   pub conflict_up : N.Conflict nodes facts → T.Conflict no_unfoldings (map (literal tree) facts)
   conflict_up (N.below_itself h) = T.below_itself (bound_up h)
   conflict_up (N.clash {a = a} {b = b} k h) =

@@ -11,7 +11,7 @@ use Rattle.vf_refute.specs.Closure as table
 use Rattle.vf_closure.specs.Terms as terms
 use Rattle.vf_closure.specs.Terms.{Integer, Other, Term, Terms, term, no_terms, and_term, kind_of}
 use Rattle.vf_closure.specs.Literals.{Literal, Equal, NotEqual, AtMost, Difference, NotDifference, False}
-use Rattle.vf_closure.specs.Closure.{no_unfoldings, Arises, Conflict}
+use Rattle.vf_closure.specs.Closure.{no_unfoldings, Arises, Same, Conflict}
 
 -- a head of which the closure knows nothing but its kind
 abbrev pub IsOpaque : terms.Head → Type 0
@@ -77,3 +77,10 @@ ClosuresAgree =
     (nodes : List Node) (meant : Head → terms.Head) (tree : ℕ → Term) (facts : List Fact)
     → IsReading nodes meant tree → IsTableOf nodes tree (map (literal tree) facts) → ((l : Fact) → Contains facts l → IsInside (length nodes) l)
     → table.Conflict nodes facts ↔ Conflict no_unfoldings (map (literal tree) facts)
+
+-- under the same conditions two terms of the table are equal in its closure exactly where they are equal in that of the facts
+abbrev pub EqualTermsAgree : Type 0
+EqualTermsAgree =
+    (nodes : List Node) (meant : Head → terms.Head) (tree : ℕ → Term) (facts : List Fact)
+    → IsReading nodes meant tree → IsTableOf nodes tree (map (literal tree) facts) → ((l : Fact) → Contains facts l → IsInside (length nodes) l)
+    → (a b : ℕ) → a < length nodes → b < length nodes → table.Same nodes facts a b ↔ Same no_unfoldings (map (literal tree) facts) (tree a) (tree b)

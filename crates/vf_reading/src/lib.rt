@@ -1,10 +1,10 @@
 //! Tables of terms read as terms.
 //!
 //! The closure of a question is defined over terms, and decided over a table in which each term
-//! stands once, as a number. What a table is read as stands in `specs/`, and the law here is that the
-//! two closures agree.
+//! stands once, as a number. What a table is read as stands in `specs/`, and the laws here are that
+//! the two closures agree on conflicts and on equal terms.
 #![tactic(auto)]
 
 mod laws;
 
-pub use laws::closures_agree;
+pub use laws::{closures_agree, equal_terms_agree};

@@ -16,5 +16,5 @@ add_term-requires t c =
 
 pub returns-then-not-branch : goal.returns-then-not-branch
 returns-then-not-branch t c =
-    too_many_parts (shown_head c.term.inside.head) c.as_slice-part-items.result.now (pointed c.args.terms.now.items) (pointed c.loop-part.terms.items) c.loop-part.part-index c.part-item.result c.args.term.now
-    (sym c.term.view_is ∙ ap (λ ps. term (shown_head c.term.inside.head) (row ps)) (sym c.as_slice-part-items.ensures)) c.loop-part.invariant c.loop-part-test.true c.part-item.is (too_long _ _ _ (c.in_ok-add_term.ensures) c.if-not-branch.true)
+    too_many_parts c.args.most (shown_head c.term.inside.head) c.as_slice-part-items.result.now (pointed c.args.terms.now.items) (pointed c.loop-part.terms.items) c.loop-part.part-index c.part-item.result c.args.term.now
+    (sym c.term.view_is ∙ ap (λ ps. term (shown_head c.term.inside.head) (row ps)) (sym c.as_slice-part-items.ensures)) c.loop-part.invariant c.loop-part-test.true c.part-item.is (too_long _ _ _ _ (c.in_ok-add_term.ensures) c.if-not-branch.true)
