@@ -1,0 +1,3 @@
+pub mod Searched
+pub mod Rounds
+pub mod Rows

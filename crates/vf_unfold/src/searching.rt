@@ -1,0 +1,303 @@
+//! The search for the next unfolding.
+
+ghost use Rattle.std.specs.Prelude.{◌≡◌, ◌<◌, ◌≤◌, ◌↔◌, ℕ, length, All, Some, IsTrue, IfOk, MatchOption, slice_index};
+ghost use Rattle.vf_question.specs.Numbered.{pointed};
+ghost use Rattle.vf_question.specs.Plain.{IsPlain};
+ghost use Rattle.vf_question.specs.Questions.{at};
+ghost use Rattle.vf_question.specs.Unfolded.{WasMade};
+ghost use Rattle.vf_unfold.specs.Searched.{IsOfConstructor, IsExhausted, IsNew, IsCaseExhausted, IsNewCase, AreCasesExhausted, IsNewSwitched, IsUnfolded, IsNewOf};
+
+use crate::unfolder::Unfolder;
+use std::alloc::Global;
+use vf_base::Memory;
+use vf_congruence::Classes;
+use vf_formula::{Head, Term};
+use vf_question::{Unfolding, place};
+
+/// The depth to which applications are unfolded.
+const MOST_DEPTH: u32 = 4;
+
+/// Whether a term is one of a constructor.
+fn is_of_constructor(term: &Term) -> bool
+    ensures { IsTrue result ↔ IsOfConstructor term.now }
+{
+    match &term.head {
+        Head::Constructor(_) => true,
+        _ => false,
+    }
+}
+
+/// Whether an unfolding is that of an application to a body, at no greater depth.
+fn is_such(unfolding: &Unfolding, application: &Term, body: &Term, depth: u32) -> bool
+    ensures { IsTrue result ↔ (unfolding.now.application ≡ application.now) × (unfolding.now.body ≡ body.now) × (unfolding.now.depth ≤ depth) }
+{
+    if unfolding.depth > depth {
+        return false;
+    }
+    if !unfolding.application.same(application) {
+        return false;
+    }
+    unfolding.body.same(body)
+}
+
+/// Whether the unfolding of an application to a body was made, at no greater depth.
+fn was_made(made: &[Unfolding], application: &Term, body: &Term, depth: u32) -> bool
+    ensures { IsTrue result ↔ WasMade made.now application.now body.now depth }
+{
+    for unfolding in made {
+        if is_such(unfolding, application, body, depth) {
+            return true;
+        }
+    }
+    false
+}
+
+/// The unfolding of an application to a body, where it was not made.
+fn unless_made(
+    alloc: Global,
+    made: &[Unfolding],
+    application: &Term,
+    body: Term,
+    depth: u32,
+) -> Result<Option<Unfolding>, Memory>
+    requires low { depth < 4 }
+    requires plain { IsPlain body }
+    ensures { IfOk result
+        (λ o. MatchOption o (WasMade made.now application.now body depth)
+        (λ m. IsNew made.now application.now depth (Some body) m)) }
+{
+    if was_made(made, application, &body, depth) {
+        return Ok(None);
+    }
+    Ok(Some(Unfolding {
+        application: application.copy(alloc)?,
+        body,
+        depth,
+    }))
+}
+
+/// The unfolding of an application to its body, where it was not made.
+fn next_body<U: Unfolder>(
+    alloc: Global,
+    unfolder: &U,
+    made: &[Unfolding],
+    application: &Term,
+    depth: u32,
+) -> Result<Option<Unfolding>, Memory>
+    requires plain { IsPlain application.now }
+    ensures { IfOk result
+        (λ o. MatchOption o (IsExhausted made.now application.now depth ((U.unfoldings unfolder.now).body application.now))
+        (λ m. IsNew made.now application.now depth ((U.unfoldings unfolder.now).body application.now) m)) }
+{
+    if depth >= MOST_DEPTH {
+        return Ok(None);
+    }
+    match unfolder.body(alloc, application)? {
+        Some(body) => Ok(unless_made(alloc, made, application, body, depth)?),
+        None => Ok(None),
+    }
+}
+
+/// The unfolding of an application by a term of a constructor, where it was not made.
+fn next_case<U: Unfolder>(
+    alloc: Global,
+    unfolder: &U,
+    made: &[Unfolding],
+    application: &Term,
+    by: &Term,
+    depth: u32,
+) -> Result<Option<Unfolding>, Memory>
+    requires plain { IsPlain application.now }
+    requires by { IsPlain by.now }
+    ensures { IfOk result
+        (λ o. MatchOption o (IsExhausted made.now application.now depth ((U.unfoldings unfolder.now).case application.now by.now))
+        (λ m. IsNew made.now application.now depth ((U.unfoldings unfolder.now).case application.now by.now) m)) }
+{
+    if depth >= MOST_DEPTH {
+        return Ok(None);
+    }
+    match unfolder.case(alloc, application, by)? {
+        Some(body) => Ok(unless_made(alloc, made, application, body, depth)?),
+        None => Ok(None),
+    }
+}
+
+/// The same, where the term is a constructor's and in the class of the argument that the application
+/// goes by.
+fn next_by<U: Unfolder>(
+    alloc: Global,
+    unfolder: &U,
+    made: &[Unfolding],
+    terms: &[&Term],
+    depths: &[u32],
+    classes: &Classes,
+    application: &Term,
+    depth: u32,
+    switched: u32,
+    by: u32,
+) -> Result<Option<Unfolding>, Memory>
+    requires size { length classes.now.nodes ≡ length terms.now }
+    requires depths { length depths.now ≡ length terms.now }
+    requires plain { All IsPlain (pointed terms.now) }
+    requires application { IsPlain application.now }
+    requires switched { switched < length terms.now }
+    requires by { by < length terms.now }
+    ensures { IfOk result
+        (λ o. MatchOption o (IsCaseExhausted (U.unfoldings unfolder.now) made.now classes.now (pointed terms.now) depths.now application.now depth switched by)
+        (λ m. IsNewCase (U.unfoldings unfolder.now) made.now classes.now (pointed terms.now) depths.now application.now depth switched by m)) }
+{
+    let term: &Term = terms[by as usize];
+    if !is_of_constructor(term) {
+        return Ok(None);
+    }
+    if !classes.same(switched, by) {
+        return Ok(None);
+    }
+    let deepest = depth.max(depths[by as usize]);
+    let next = next_case(alloc, unfolder, made, application, term, deepest)?;
+    Ok(next)
+}
+
+/// The same with each term in turn.
+fn next_by_any<U: Unfolder>(
+    alloc: Global,
+    unfolder: &U,
+    made: &[Unfolding],
+    terms: &[&Term],
+    depths: &[u32],
+    classes: &Classes,
+    application: &Term,
+    depth: u32,
+    switched: u32,
+) -> Result<Option<Unfolding>, Memory>
+    requires size { length classes.now.nodes ≡ length terms.now }
+    requires depths { length depths.now ≡ length terms.now }
+    requires plain { All IsPlain (pointed terms.now) }
+    requires application { IsPlain application.now }
+    requires switched { switched < length terms.now }
+    ensures { IfOk result
+        (λ o. MatchOption o ((k : ℕ) → k < length terms.now → IsCaseExhausted (U.unfoldings unfolder.now) made.now classes.now (pointed terms.now) depths.now application.now depth switched k)
+        (λ m. (k : ℕ) × (k < length terms.now) × IsNewCase (U.unfoldings unfolder.now) made.now classes.now (pointed terms.now) depths.now application.now depth switched k m)) }
+{
+    for by in 0..classes.size() {
+        if let Some(next) = next_by(
+            alloc,
+            unfolder,
+            made,
+            terms,
+            depths,
+            classes,
+            application,
+            depth,
+            switched,
+            by,
+        )? {
+            return Ok(Some(next));
+        }
+    }
+    Ok(None)
+}
+
+/// The unfolding of an application by a term in the class of the argument that it goes by, where it was
+/// not made.
+fn next_switched<U: Unfolder>(
+    alloc: Global,
+    unfolder: &U,
+    made: &[Unfolding],
+    terms: &[&Term],
+    depths: &[u32],
+    classes: &Classes,
+    application: &Term,
+    depth: u32,
+) -> Result<Option<Unfolding>, Memory>
+    requires size { length classes.now.nodes ≡ length terms.now }
+    requires depths { length depths.now ≡ length terms.now }
+    requires plain { All IsPlain (pointed terms.now) }
+    requires application { IsPlain application.now }
+    ensures { IfOk result
+        (λ o. MatchOption o (AreCasesExhausted (U.unfoldings unfolder.now) made.now classes.now (pointed terms.now) depths.now application.now depth)
+        (λ m. IsNewSwitched (U.unfoldings unfolder.now) made.now classes.now (pointed terms.now) depths.now application.now depth m)) }
+{
+    match unfolder.switched(application) {
+        Some(argument) => {
+            let switched = place(terms, argument);
+            if switched >= classes.size() as usize {
+                return Ok(None);
+            }
+            let next = next_by_any(
+                alloc,
+                unfolder,
+                made,
+                terms,
+                depths,
+                classes,
+                application,
+                depth,
+                switched as u32,
+            )?;
+            Ok(next)
+        }
+        None => Ok(None),
+    }
+}
+
+/// The unfolding of an application, to its body or by a case, where it was not made.
+fn next_of<U: Unfolder>(
+    alloc: Global,
+    unfolder: &U,
+    made: &[Unfolding],
+    terms: &[&Term],
+    depths: &[u32],
+    classes: &Classes,
+    application: &Term,
+    depth: u32,
+) -> Result<Option<Unfolding>, Memory>
+    requires size { length classes.now.nodes ≡ length terms.now }
+    requires depths { length depths.now ≡ length terms.now }
+    requires plain { All IsPlain (pointed terms.now) }
+    requires application { IsPlain application.now }
+    ensures { IfOk result
+        (λ o. MatchOption o (IsUnfolded (U.unfoldings unfolder.now) made.now classes.now (pointed terms.now) depths.now application.now depth)
+        (λ m. IsNewOf (U.unfoldings unfolder.now) made.now classes.now (pointed terms.now) depths.now application.now depth m)) }
+{
+    if let Some(next) = next_body(alloc, unfolder, made, application, depth)? {
+        return Ok(Some(next));
+    }
+    let next = next_switched(
+        alloc,
+        unfolder,
+        made,
+        terms,
+        depths,
+        classes,
+        application,
+        depth,
+    )?;
+    Ok(next)
+}
+
+/// The next unfolding of one of the terms, none where all were made.
+pub fn find_next<U: Unfolder>(
+    alloc: Global,
+    unfolder: &U,
+    made: &[Unfolding],
+    terms: &[&Term],
+    depths: &[u32],
+    classes: &Classes,
+) -> Result<Option<Unfolding>, Memory>
+    requires size { length classes.now.nodes ≡ length terms.now }
+    requires depths { length depths.now ≡ length terms.now }
+    requires plain { All IsPlain (pointed terms.now) }
+    ensures { IfOk result
+        (λ o. MatchOption o ((i : ℕ) → i < length terms.now → IsUnfolded (U.unfoldings unfolder.now) made.now classes.now (pointed terms.now) depths.now (at (pointed terms.now) i) (slice_index depths.now i))
+        (λ m. (i : ℕ) × (i < length terms.now) × IsNewOf (U.unfoldings unfolder.now) made.now classes.now (pointed terms.now) depths.now (at (pointed terms.now) i) (slice_index depths.now i) m)) }
+{
+    for i in 0..terms.len() {
+        if let Some(next) = next_of(
+            alloc, unfolder, made, terms, depths, classes, terms[i], depths[i],
+        )? {
+            return Ok(Some(next));
+        }
+    }
+    Ok(None)
+}
