@@ -1,6 +1,6 @@
 -- The matrix's invariant, at each way_over that a bound is added.
 use Rattle.std.proofs.Common.{◌≡◌, ℕ, zero, suc, ◌+◌, ◌*◌, ◌/◌, ◌%◌, ◌<◌, ◌≤◌, ◌^◌, ◌⊎◌, inl, inr, List, [], ◌∷◌, ◌++◌, length, get_or, Some, None, refl, sym, ◌∙◌, ap, subst, arith, Bool, true, false, eqb}
-use Rattle.std.specs.Prelude.{ℤ, pos, ◌+ℤ◌, ◌≤ℤ◌, ◌<ℤ◌, Contains, Option, if◌then◌else◌, MatchOption, ◌==◌}
+use Rattle.std.specs.Prelude.{ℤ, pos, ◌+ℤ◌, ◌≤ℤ◌, ◌<ℤ◌, Contains, Option, if◌then◌else◌, MatchOption, IfSome, ◌==◌}
 use Rattle.std.proofs.lemmas.Int.{ints, clamps, by_lt_z}
 use Rattle.std.proofs.lemmas.List.Sums.{sum_by-cons}
 use Rattle.std.specs.Prelude.{count_by, cond}
@@ -34,10 +34,15 @@ small_more edges e small new f m = elim (Contains-push_cases edges e f m) [ inl 
 pub cycle_more : (edges : List Edge) (e : Edge) → HasNegativeCycle edges → HasNegativeCycle (edges ++ e ∷ [])
 cycle_more edges e h = record { point = h.point; total = h.total; cycle = more e h.cycle; below = h.below }
 
-pub matrix_cyclic : (size : ℕ) (edges : List Edge) (c : Bool) (matrix : List (Option ℤ)) (e : Edge) → IsMatrix size edges c matrix → c ≡ true → IsSmall (2 ^ 100) e.most → IsMatrix size (edges ++ e ∷ []) c matrix
-matrix_cyclic size edges c matrix e is set new = record {
+-- the points of one edge more
+points_more : (size : ℕ) (edges : List Edge) (e : Edge) → ((f : Edge) → Contains edges f → (f.from < size) × (f.to < size)) → e.from < size → e.to < size → (f : Edge) → Contains (edges ++ e ∷ []) f → (f.from < size) × (f.to < size)
+points_more size edges e points inx iny f m = elim (Contains-push_cases edges e f m) [ inl k ↦ points f k | inr g ↦ (subst (λ (w : Edge). w.from < size) g inx, subst (λ (w : Edge). w.to < size) g iny) ]
+
+pub matrix_cyclic : (size : ℕ) (edges : List Edge) (c : Bool) (matrix : List (Option ℤ)) (e : Edge) → IsMatrix size edges c matrix → c ≡ true → IsSmall (2 ^ 100) e.most → e.from < size → e.to < size → IsMatrix size (edges ++ e ∷ []) c matrix
+matrix_cyclic size edges c matrix e is set new inx iny = record {
   few = is.few;
   long = is.long;
+  points = points_more size edges e is.points inx iny;
   small = small_more edges e is.small new;
   exact = λ no. absurd (cc);
   bad = λ t. cycle_more edges e (is.bad set);
@@ -47,6 +52,7 @@ pub matrix_closes : (size : ℕ) (edges : List Edge) (c : Bool) (matrix : List (
 matrix_closes size edges c matrix e t is unset new inx iny back below = record {
   few = is.few;
   long = is.long;
+  points = points_more size edges e is.points inx iny;
   small = small_more edges e is.small new;
   exact = λ f. absurd (cc);
   bad = λ y. record { point = e.from; total = e.most +ℤ t; cycle = path_edge e (Contains-push edges e) (more e ((is.exact unset).sound e.to e.from t iny inx back)); below = omega (arith, ints) };
@@ -60,6 +66,7 @@ pub matrix_relaxed : (size : ℕ) (edges : List Edge) (c : Bool) (matrix after :
 matrix_relaxed size edges c matrix after e row column most mis is unset new inx iny fine long columns rows entries = record {
   few = is.few;
   long = long ∙ is.long;
+  points = points_more size edges e is.points inx iny;
   small = small_more edges e is.small new;
   exact = λ f. distances_more size edges (distance size matrix) (distance size after) e (is.exact unset) inx iny
       (λ t h. by_lt_z (t +ℤ e.most) (pos 0) (λ k. absurd (fine t h k)) (λ k. k))
@@ -75,6 +82,7 @@ pub matrix_none : (size : ℕ) (matrix : List (Option ℤ)) → size ≤ 2 ^ 24 
 matrix_none size matrix few long entries = record {
   few = few;
   long = long;
+  points = λ e m. absurd (let l = m.1 in omega arith);
   small = λ e m. absurd (let l = m.1 in omega arith);
   exact = λ f. record {
     sound = λ x y v i j h. from_zero x y v i j (is_under (distance size matrix x y) v h) h;
@@ -127,6 +135,14 @@ cycle_iff size edges false matrix is = (λ t. absurd (cc), λ h. absurd (clash h
 pub bound_is : (size : ℕ) (edges : List Edge) (d : ℕ → ℕ → Option ℤ) → AreDistances size edges d → (x y : ℕ) → x < size → y < size → (o : Option ℤ) → d x y ≡ o → MatchOption o ((c : ℤ) → Path edges x y c → ⊥) (λ c. IsLeast edges x y c)
 bound_is size edges d is x y i j None e = λ c h. subst (λ o. IsUnder o c) e (at_most size edges d is i j h)
 bound_is size edges d is x y i j (Some v) e = record { reached = is.sound x y v i j e; least = λ c h. subst (λ o. IsUnder o c) e (at_most size edges d is i j h) }
+
+-- a least bound is small
+pub bound_small : (size : ℕ) (edges : List Edge) (c : Bool) (matrix : List (Option ℤ)) → IsMatrix size edges c matrix → c ≡ false → (x y : ℕ) → x < size → y < size → (o : Option ℤ) → distance size matrix x y ≡ o → IfSome o (λ v. IsSmall (2 ^ 125) v)
+bound_small size edges c matrix is unset x y i j None e = tt
+bound_small size edges c matrix is unset x y i j (Some v) e =
+    let s = distances_small size (2 ^ 100) edges (distance size matrix) (is.exact unset) is.small x y v i j e in
+    let f = is.few in
+    record { low = let h = s.low in omega (arith, ints); high = let h = s.high in omega (arith, ints) }
 
 -- ---- the parts of `add`
 

@@ -46,6 +46,7 @@ is_above (Some v) = int_lt (pos 0) v
 pub record IsMatrix (size : ℕ) (edges : List Edge) (cyclic : Bool) (matrix : List (Option ℤ)) : Type 0 where
   pub few : size ≤ 2 ^ 24
   pub long : length matrix ≡ size * size
+  pub points : (e : Edge) → Contains edges e → (e.from < size) × (e.to < size)
   pub small : (e : Edge) → Contains edges e → IsSmall (2 ^ 100) e.most
   pub exact : IsFalse cyclic → AreDistances size edges (distance size matrix)
   pub bad : IsTrue cyclic → HasNegativeCycle edges

@@ -1,6 +1,6 @@
 //! Bounds between points.
 
-ghost use Rattle.std.specs.Prelude.{◌≡◌, ◌<◌, ◌≤◌, ◌^◌, ◌∷◌, [], ◌++◌, ◌↔◌, ◌≤ℤ◌, ℤ, pos, IsTrue, IfOk, OnOk, OnErr, MatchOption};
+ghost use Rattle.std.specs.Prelude.{◌≡◌, Contains, ◌<◌, ◌≤◌, ◌^◌, ◌∷◌, [], ◌++◌, ◌↔◌, ◌≤ℤ◌, ℤ, pos, IsTrue, IfOk, IfSome, OnOk, OnErr, MatchOption};
 ghost use Rattle.vf_arith.specs.Paths.{Path, IsLeast, HasNegativeCycle, IsSmall};
 
 use crate::matrix::{closes_below, column, relax, row, without_edges};
@@ -98,6 +98,14 @@ impl Bounds {
         self.size
     }
 
+    /// The bounds that were added, in order.
+    pub fn edges(&self) -> &[Edge]
+        ensures edges { result.now ≡ self.now.edges }
+        ensures points { (e : Edge) → Contains self.now.edges e → (e.from < self.now.size) × (e.to < self.now.size) × IsSmall (2 ^ 100) e.most }
+    {
+        &self.edges
+    }
+
     /// Whether a chain of bounds leads from a point to itself below 0.
     pub fn conflict(&self) -> bool
         ensures { IsTrue result ↔ HasNegativeCycle self.now.edges }
@@ -111,7 +119,8 @@ impl Bounds {
         requires fine { HasNegativeCycle self.now.edges → ⊥ }
         requires left { x < self.now.size }
         requires right { y < self.now.size }
-        ensures { MatchOption result ((c : ℤ) → Path self.now.edges x y c → ⊥) (λ c. IsLeast self.now.edges x y c) }
+        ensures least { MatchOption result ((c : ℤ) → Path self.now.edges x y c → ⊥) (λ c. IsLeast self.now.edges x y c) }
+        ensures small { IfSome result (λ c. IsSmall (2 ^ 125) c) }
     {
         self.matrix[x as usize * self.size as usize + y as usize]
     }

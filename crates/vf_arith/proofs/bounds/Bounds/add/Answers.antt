@@ -9,8 +9,11 @@ use Rattle.vf_arith.proofs.Entries.{cycle_more, weight_falls, matrix_cyclic, mat
 use Rattle.vf_arith.proofs.bounds.Bounds.add.Goals as goal
 
 pub invariant_of-self-then-self : goal.invariant_of-self-then-self
-invariant_of-self-then-self c = rw c.in_ok-push.ensures.items
-    (matrix_cyclic c.self.inside.size c.self.inside.edges.items c.self.inside.cyclic c.self.inside.matrix.items c.args.edge c.self.invariant c.if-self.true c.requires.small)
+invariant_of-self-then-self c =
+    let s : c.args.edge.from < c.self.inside.size = omega (arith, c.requires.from, ap (λ (a : Network). a.size) c.self.view_is) in
+    let t : c.args.edge.to < c.self.inside.size = omega (arith, c.requires.to, ap (λ (a : Network). a.size) c.self.view_is) in
+    rw c.in_ok-push.ensures.items
+    (matrix_cyclic c.self.inside.size c.self.inside.edges.items c.self.inside.cyclic c.self.inside.matrix.items c.args.edge c.self.invariant c.if-self.true c.requires.small s t)
 
 pub closes_below-requires-clause-back : goal.closes_below-requires-clause-back
 closes_below-requires-clause-back c =

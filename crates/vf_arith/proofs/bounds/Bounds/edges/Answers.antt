@@ -1,0 +1,9 @@
+use Rattle.std.proofs.Common.{◌≡◌, ap, Contains}
+use Rattle.vf_arith.specs.Paths.{Network, IsSmall}
+use Rattle.vf_arith.specs.declared.bounds.Edge.{Edge}
+use Rattle.vf_arith.proofs.bounds.Bounds.edges.Goals as goal
+
+pub returns-clause-points : goal.returns-clause-points
+returns-clause-points c =
+    rw (← ap (λ (a : Network). a.size) c.self.view_is, ← ap (λ (a : Network). a.edges) c.self.view_is)
+    (λ e m. let p = c.self.invariant.points e m in (p.0, p.1, c.self.invariant.small e m))
