@@ -93,7 +93,8 @@ impl Bounds {
 
     /// How many points there are.
     pub fn size(&self) -> u32
-        ensures { result ≡ self.now.size }
+        ensures size { result ≡ self.now.size }
+        ensures few { result ≤ 4096 }
     {
         self.size
     }

@@ -1,10 +1,10 @@
 -- Points are reached over edges of least paths until no edge leads on, and then all are reached to which there is a path.
 use Rattle.std.proofs.Common.{◌≡◌, ℕ, zero, suc, ◌+◌, ◌<◌, ◌≤◌, ◌^◌, inl, List, [], ◌∷◌, length, Option, Some, None, refl, sym, ◌∙◌, ap, subst, arith, Bool, true, false}
-use Rattle.std.specs.Prelude.{ℤ, pos, neg_ℤ, ◌+ℤ◌, ◌≤ℤ◌, ◌<ℤ◌, Contains, slice_get, slice_set, slice_index, slice_index_or, count_by, is_none, MatchBool}
+use Rattle.std.specs.Prelude.{ℤ, pos, ◌+ℤ◌, ◌≤ℤ◌, Contains, slice_get, slice_set, slice_index, slice_index_or, count_by, is_none, MatchBool}
 use Rattle.std.proofs.lemmas.Int.{ints, by_lt_z}
 use Rattle.std.proofs.lemmas.List.Sums.{sum_by-cons}
 use Rattle.std.proofs.lemmas.List.Elements.{Contains-get_or}
-use Rattle.std.proofs.lemmas.Option.{slice_get-get_or, slice_get_within}
+use Rattle.std.proofs.lemmas.Option.{slice_get-get_or}
 use Rattle.std.proofs.Math.Decide.{ℕ_discrete}
 use Rattle.vf_arith.specs.declared.bounds.Edge.{Edge}
 use Rattle.vf_arith.specs.Paths.{Path, path_none, path_edge, IsLeast, HasNegativeCycle, IsSmall}
@@ -152,10 +152,13 @@ told_not edges x i e b c over new now before is none found h k = subst (λ z. Ma
 
     kept : (d : Bool) → MatchBool d (count_by is_none now < count_by is_none before) ((now ≡ before) × NoneLeads edges x i before) → MatchBool d (count_by is_none new < count_by is_none before) ((new ≡ before) × NoneLeads edges x (i + 1) before)
     kept true m = let e1 = ap (count_by is_none) told.0 in omega (arith, m, e1)
-    kept false m = (told.0 ∙ m.0, λ j f l there leads. elim (ℕ_discrete j i) [
-      | yes q ↦ last m.0 j f q there leads
-      | no n ↦ m.1 j f (omega (arith, l, n)) there leads
-    ])
+    kept false m = (
+      told.0 ∙ m.0,
+      λ j f l there leads. elim (ℕ_discrete j i) [
+        | yes q ↦ last m.0 j f q there leads
+        | no n ↦ m.1 j f (omega (arith, l, n)) there leads
+      ],
+    )
 
 -- what derived the edges still does
 pub reasons_kept : (known known' : List Derived) (edges : List Edge) (reasons : List ℕ) → ((a : ℕ) (d : Derived) → HasDerived known a d → HasDerived known' a d) → AreReasons known edges reasons → AreReasons known' edges reasons

@@ -1,9 +1,9 @@
 -- Steps that derive bounds.
-use Rattle.std.specs.Prelude.{◌≡◌, ℕ, ◌^◌, ℤ, pos, ◌+ℤ◌, ◌<ℤ◌, List, length, Contains, Option, Some, None, slice_get, slice_index}
+use Rattle.std.specs.Prelude.{◌≡◌, ℕ, ◌^◌, ℤ, pos, ◌+ℤ◌, ◌<ℤ◌, ◌≤ℤ◌, List, length, Contains, Option, Some, None, slice_get, slice_index}
 use Rattle.vf_table.specs.declared.node.Node.{Node}
 use Rattle.vf_table.specs.Tables.{IsInteger}
 use Rattle.vf_arith.specs.declared.bounds.Edge.{Edge}
-use Rattle.vf_arith.specs.Paths.{Path, IsLeast}
+use Rattle.vf_arith.specs.Paths.{Path, IsLeast, IsSmall}
 use Rattle.vf_refute.specs.declared.steps.Derived.{Derived}
 use Rattle.vf_refute.specs.declared.steps.Derived.TheVariants.{AreWithin}
 use Rattle.vf_refute.specs.Refutations.{HasDerived, IsWithin}
@@ -29,6 +29,17 @@ pub record IsBelowItself (known : List Derived) (s : ℕ) : Type 0 where
   pub total : ℤ
   pub derived : HasDerived known s (AreWithin point point total)
   pub below : total <ℤ pos 0
+
+-- an edge closes a cycle below 0 with a least path from its end to its beginning
+pub record DoesClose (edges : List Edge) (e : Edge) : Type 0 where
+  pub back : ℤ
+  pub least : IsLeast edges e.to e.from back
+  pub small : IsSmall (2 ^ 125) back
+  pub below : (back +ℤ e.most) <ℤ pos 0
+
+-- an edge closes no cycle below 0
+abbrev pub StaysOpen : List Edge → Edge → Type 0
+StaysOpen edges e = (c : ℤ) → Path edges e.to e.from c → pos 0 ≤ℤ (c +ℤ e.most)
 
 -- each point that was reached has a step that derived the least bound from x to it
 abbrev pub AreReached : List Derived → List Edge → ℕ → List (Option ℕ) → Type 0

@@ -92,7 +92,7 @@ fn reach_over(
 }
 
 /// The bound with a number among those that were added.
-fn edge_at(bounds: &Bounds, i: usize) -> Edge
+pub(crate) fn edge_at(bounds: &Bounds, i: usize) -> Edge
     requires { i < length bounds.now.edges }
     ensures found { slice_get bounds.now.edges i ≡ Some result }
     ensures one { Contains bounds.now.edges result }

@@ -5,9 +5,9 @@
 #![tactic(auto)]
 
 mod bound;
-
-
-
+mod conflict;
+#[cfg(test)]
+mod tests;
 
 pub use bound::why_bound;
-
+pub use conflict::why_conflict;

@@ -1,4 +1,4 @@
-use Rattle.std.proofs.Common.{◌≡◌, ◌<◌, ℕ, length, Some, None, slice_get}
+use Rattle.std.proofs.Common.{◌≡◌, ◌<◌, ℕ, length, Some, slice_get}
 use Rattle.vf_explain.proofs.bound.begun.Given as goal
 
 abbrev pub invariant-loop-i : goal.invariant-loop-i

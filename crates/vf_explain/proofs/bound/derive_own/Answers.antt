@@ -1,4 +1,3 @@
-use Rattle.std.proofs.Common.{◌≡◌}
 use Rattle.vf_log.proofs.Continued.{added_has, added_continues, continued_more}
 use Rattle.vf_explain.proofs.Reaching.{own_level, own_within}
 use Rattle.vf_explain.proofs.bound.derive_own.Goals as goal

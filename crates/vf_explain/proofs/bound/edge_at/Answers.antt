@@ -1,4 +1,3 @@
-use Rattle.std.proofs.Common.{◌≡◌}
 use Rattle.vf_explain.proofs.Reaching.{edge_in}
 use Rattle.vf_explain.proofs.bound.edge_at.Goals as goal
 

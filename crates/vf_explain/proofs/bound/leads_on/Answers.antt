@@ -1,4 +1,4 @@
-use Rattle.std.proofs.Common.{◌≡◌, ◌∙◌, ℕ, Some, None, refl, sym, ap, arith, true, false}
+use Rattle.std.proofs.Common.{◌≡◌, ◌∙◌, Some, None, refl, sym, ap, arith, true, false}
 use Rattle.std.proofs.lemmas.Int.{ints}
 use Rattle.vf_explain.proofs.Reaching.{least_one, within, over}
 use Rattle.vf_explain.proofs.bound.leads_on.Goals as goal

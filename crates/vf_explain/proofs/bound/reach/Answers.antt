@@ -1,5 +1,5 @@
-use Rattle.std.proofs.Common.{◌≡◌, ◌<◌, ℕ, Some, None, slice_get, refl, sym, subst, ap, ◌∙◌, arith, Bool, true, false, length}
-use Rattle.std.specs.Prelude.{count_by, is_none, MatchBool}
+use Rattle.std.proofs.Common.{◌≡◌, ℕ, Some, None, sym, ap, ◌∙◌, Bool, true, false}
+use Rattle.std.specs.Prelude.{MatchBool}
 use Rattle.vf_explain.specs.Reached.{IsClosed}
 use Rattle.vf_explain.proofs.Reaching.{reached_at_last}
 use Rattle.vf_explain.proofs.bound.reach.Goals as goal

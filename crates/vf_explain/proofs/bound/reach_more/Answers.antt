@@ -1,4 +1,4 @@
-use Rattle.std.proofs.Common.{◌≡◌, ◌<◌, ◌≤◌, ◌∙◌, ℕ, arith, length}
+use Rattle.std.proofs.Common.{◌<◌, ◌∙◌, arith}
 use Rattle.std.specs.Prelude.{count_by, is_none}
 use Rattle.vf_log.proofs.Continued.{continued_more}
 use Rattle.vf_explain.proofs.Reaching.{told_at_end, told_led, told_not, reasons_kept}

@@ -1,5 +1,5 @@
-use Rattle.std.proofs.Common.{◌≡◌, ◌<◌, ℕ, Some, slice_get, refl, sym, ap, ◌∙◌, arith, subst}
-use Rattle.std.specs.Prelude.{ℤ, ◌+ℤ◌, length}
+use Rattle.std.proofs.Common.{arith, subst}
+use Rattle.std.specs.Prelude.{ℤ, ◌+ℤ◌}
 use Rattle.vf_refute.specs.declared.steps.Derived.TheVariants.{AreWithin}
 use Rattle.vf_refute.specs.Refutations.{HasDerived}
 use Rattle.vf_arith.specs.Paths.{IsLeast}
@@ -11,9 +11,18 @@ pub chain-requires : goal.chain-requires
 chain-requires c =
     let l = c.in-Some.ensures in
     let b = c.requires.reached c.args.edge.from c.in-Some.step l.reached in
-    record { bounds = (c.args.x, c.args.edge.from, c.args.edge.to, l.leads.before, c.args.edge.most,
+    record {
+      bounds = (
+        c.args.x,
+        c.args.edge.from,
+        c.args.edge.to,
+        l.leads.before,
+        c.args.edge.most,
         subst (λ (z : ℤ). HasDerived c.args.log.now.known c.in-Some.step (AreWithin c.args.x c.args.edge.from z)) (least_one b.least l.leads.to_it) b.derived,
-        c.requires.reason, l.small) }
+        c.requires.reason,
+        l.small,
+      );
+    }
 
 pub returns-in_ok-chain-in-Some-clause-continued : goal.returns-in_ok-chain-in-Some-clause-continued
 returns-in_ok-chain-in-Some-clause-continued c =

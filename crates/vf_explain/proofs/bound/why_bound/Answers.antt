@@ -1,4 +1,3 @@
-use Rattle.std.proofs.Common.{◌≡◌}
 use Rattle.vf_log.proofs.Continued.{continued_more}
 use Rattle.vf_explain.proofs.Reaching.{first_reached, reasons_kept}
 use Rattle.vf_explain.proofs.bound.why_bound.Goals as goal
