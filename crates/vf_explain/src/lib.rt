@@ -5,9 +5,11 @@
 #![tactic(auto)]
 
 mod bound;
+mod checking;
 mod conflict;
 #[cfg(test)]
 mod tests;
 
 pub use bound::why_bound;
+pub use checking::{are_of_integers, are_reasons};
 pub use conflict::why_conflict;

@@ -1,13 +1,13 @@
 //! Bounds with the steps that derive what follows.
 
-use crate::{why_bound, why_conflict};
+use crate::{are_of_integers, are_reasons, why_bound, why_conflict};
 use std::alloc::Global;
 use std::test::Fail;
 use vf_arith::{Bounds, Edge, is_small};
 use vf_base::Memory;
 use vf_log::Log;
 use vf_refute::{Derived, Fact};
-use vf_table::{Head, Node};
+use vf_table::{Head, Node, is_integer};
 
 /// What was derived.
 #[derive(Clone, Copy, PartialEq, Eq, Debug)]
@@ -33,7 +33,7 @@ fn points(alloc: Global, size: u32) -> Result<Vec<Node>, Memory> {
 }
 
 /// What a step of a log derived.
-fn told(log: &Log, step: Option<u32>) -> Told {
+fn derived_by(log: &Log, step: Option<u32>) -> Told {
     match step {
         Some(number) => match log.known().get(number as usize) {
             Some(Derived::AreWithin(x, y, most)) => Told::Within(*x, *y, *most),
@@ -43,12 +43,55 @@ fn told(log: &Log, step: Option<u32>) -> Told {
     }
 }
 
+/// A step that derives a fact, if the fact is a bound that can be added.
+fn reason(log: &mut Log, i: u32) -> Result<Option<u32>, Memory> {
+    let Some(Fact::AtMost(_, _, most)) = log.facts().get(i as usize) else {
+        return Ok(None);
+    };
+    if !is_small(*most) {
+        return Ok(None);
+    }
+    Ok(Some(log.fact(i)?))
+}
+
+/// The bound from a point to another, or the conflict where there is one.
+fn explained(
+    alloc: Global,
+    log: &mut Log,
+    bounds: &Bounds,
+    reasons: &[u32],
+    x: u32,
+    y: u32,
+) -> Result<Told, Memory> {
+    if !are_reasons(log.known(), bounds.edges(), reasons) {
+        return Ok(Told::Unfit);
+    }
+    if !are_of_integers(log.nodes(), bounds.edges()) {
+        return Ok(Told::Unfit);
+    }
+    if bounds.conflict() {
+        let step = why_conflict(alloc, log, bounds, reasons)?;
+        return Ok(derived_by(log, step));
+    }
+    if x >= bounds.size() {
+        return Ok(Told::Unfit);
+    }
+    if y >= bounds.size() {
+        return Ok(Told::Unfit);
+    }
+    if !is_integer(log.nodes(), x) {
+        return Ok(Told::Unfit);
+    }
+    let step = why_bound(alloc, log, bounds, reasons, x, y)?;
+    Ok(derived_by(log, step))
+}
+
 /// The bound from a point to another that is derived where these bounds were added, or the conflict where there is one.
 fn derived(alloc: Global, edges: &[Edge], x: u32, y: u32) -> Result<Told, Memory> {
     let mut bounds = Bounds::new(alloc, 4)?;
     let mut facts = Vec::new(alloc);
     for edge in edges {
-        if edge.from >= 4 || edge.to >= 4 || !is_small(edge.most) {
+        if edge.from >= bounds.size() || edge.to >= bounds.size() || !is_small(edge.most) {
             return Ok(Told::Unfit);
         }
         bounds.add(alloc, *edge)?;
@@ -56,14 +99,12 @@ fn derived(alloc: Global, edges: &[Edge], x: u32, y: u32) -> Result<Told, Memory
     }
     let mut log = Log::new(alloc, points(alloc, 4)?, facts);
     let mut reasons = Vec::new(alloc);
-    for i in 0..edges.len() as u32 {
-        reasons.push(log.fact(i)?)?;
+    for i in 0..4 {
+        if let Some(step) = reason(&mut log, i)? {
+            reasons.push(step)?;
+        }
     }
-    let step = match why_conflict(alloc, &mut log, &bounds, &reasons)? {
-        Some(step) => Some(step),
-        None => why_bound(alloc, &mut log, &bounds, &reasons, x, y)?,
-    };
-    Ok(told(&log, step))
+    explained(alloc, &mut log, &bounds, &reasons, x, y)
 }
 
 /// The bound `from - to <= most`.
