@@ -94,7 +94,7 @@ impl Bounds {
     /// How many points there are.
     pub fn size(&self) -> u32
         ensures size { result ≡ self.now.size }
-        ensures few { result ≤ 4096 }
+        ensures few { result ≤ MOST_POINTS }
     {
         self.size
     }

@@ -1,6 +1,5 @@
-use Rattle.std.proofs.Common.{◌≡◌, ap, Contains}
-use Rattle.vf_arith.specs.Paths.{Network, IsSmall}
-use Rattle.vf_arith.specs.declared.bounds.Edge.{Edge}
+use Rattle.std.proofs.Common.{ap}
+use Rattle.vf_arith.specs.Paths.{Network}
 use Rattle.vf_arith.proofs.bounds.Bounds.edges.Goals as goal
 
 pub returns-clause-points : goal.returns-clause-points
