@@ -17,6 +17,13 @@ use vf_question::{Unfolding, place};
 /// The depth to which applications are unfolded.
 const MOST_DEPTH: u32 = 4;
 
+/// Whether applications at a depth are unfolded.
+fn is_unfolded_at(depth: u32) -> bool
+    ensures { IsTrue result ↔ (depth < 4) }
+{
+    depth < MOST_DEPTH
+}
+
 /// Whether a term is one of a constructor.
 fn is_of_constructor(term: &Term) -> bool
     ensures { IsTrue result ↔ IsOfConstructor term.now }
@@ -89,7 +96,7 @@ fn next_body<U: Unfolder>(
         (λ o. MatchOption o (IsExhausted made.now application.now depth ((U.unfoldings unfolder.now).body application.now))
         (λ m. IsNew made.now application.now depth ((U.unfoldings unfolder.now).body application.now) m)) }
 {
-    if depth >= MOST_DEPTH {
+    if !is_unfolded_at(depth) {
         return Ok(None);
     }
     match unfolder.body(alloc, application)? {
@@ -113,7 +120,7 @@ fn next_case<U: Unfolder>(
         (λ o. MatchOption o (IsExhausted made.now application.now depth ((U.unfoldings unfolder.now).case application.now by.now))
         (λ m. IsNew made.now application.now depth ((U.unfoldings unfolder.now).case application.now by.now) m)) }
 {
-    if depth >= MOST_DEPTH {
+    if !is_unfolded_at(depth) {
         return Ok(None);
     }
     match unfolder.case(alloc, application, by)? {
