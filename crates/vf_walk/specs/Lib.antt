@@ -1,0 +1,5 @@
+pub mod Walking
+pub mod Meanings
+pub mod Statements
+pub mod Names
+pub mod Items

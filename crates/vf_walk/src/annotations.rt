@@ -1,0 +1,54 @@
+//! What annotations declare.
+
+use vf_base::RuleFault;
+use vf_declared::ctype::CType;
+use vf_declared::scope::Scope;
+use vf_syntax::contract::{Contract, Invariant};
+use vf_syntax::ghost_command::GhostCommand;
+use vf_syntax::item::GhostItem;
+
+/// Whose contract one is: the file in which its name stands, what it gives, and whether it is a function type in place
+/// of a function.
+#[derive(Clone, Copy, Debug, PartialEq, Eq)]
+pub struct Owner {
+    pub file: u32,
+    pub given: CType,
+    pub is_type: bool,
+}
+
+/// Walks over annotations inside C text.
+///
+/// Each call leaves what its meaning leaves declared, or answers the refusal that this gives.
+pub trait Annotations {
+    ghost use Rattle.vf_walk.specs.Meanings.{Meanings};
+    ghost use Rattle.vf_walk.specs.Walking.{Gives};
+
+    // what annotations leave declared behind them
+    ghost meanings: { Meanings };
+
+    /// A contract, behind the parameters of its owner; what it leaves behind is visible in a body.
+    fn contract(
+        &self,
+        scope: &mut Scope,
+        owner: Owner,
+        contract: &Contract,
+    ) -> Result<(), RuleFault>
+        ensures { Gives result scope.new (meanings.contract owner contract.now scope.old) };
+
+    /// An invariant of a loop that stands in a file.
+    fn invariant(
+        &self,
+        scope: &mut Scope,
+        file: u32,
+        invariant: &Invariant,
+    ) -> Result<(), RuleFault>
+        ensures { Gives result scope.new (meanings.invariant file invariant.now scope.old) };
+
+    /// A ghost command.
+    fn command(&self, scope: &mut Scope, command: &GhostCommand) -> Result<(), RuleFault>
+        ensures { Gives result scope.new (meanings.command command.now scope.old) };
+
+    /// A ghost item.
+    fn item(&self, scope: &mut Scope, item: &GhostItem) -> Result<(), RuleFault>
+        ensures { Gives result scope.new (meanings.item item.now scope.old) };
+}

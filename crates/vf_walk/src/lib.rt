@@ -1,0 +1,17 @@
+//! The walk over a unit's C text: what is declared behind each item and each statement, or the first refusal.
+//!
+//! [`walk_items`] goes over items in the order of the text, and is given what annotations declare, by [`Annotations`].
+#![tactic(auto)]
+
+pub mod annotations;
+mod function;
+mod function_type;
+mod items;
+mod names;
+mod parameters;
+mod statement;
+mod structure;
+mod variable;
+
+pub use annotations::{Annotations, Owner};
+pub use items::walk_items;
