@@ -1,5 +1,5 @@
 -- Loops over lists: the walk over what is left comes to the same after each item.
-use Rattle.std.proofs.Common.{◌≡◌, ℕ, ◌+◌, ◌≤◌, Bool, true, false, if◌then◌else◌, List, [], ◌∷◌, ◌++◌, length, drop, Result, Ok, Err, Option, Some, None, slice_get, refl, sym, ap, ◌∙◌, subst}
+use Rattle.std.proofs.Common.{◌≡◌, ℕ, ◌+◌, ◌≤◌, true, false, if◌then◌else◌, List, [], ◌∷◌, ◌++◌, length, drop, Result, Ok, Err, Option, Some, None, slice_get, refl, sym, ap, ◌∙◌, subst}
 use Rattle.vf_base.specs.declared.refusal.RuleFault.{RuleFault}
 use Rattle.vf_declared.specs.declared.ctype.CType.{CType}
 use Rattle.vf_declared.specs.declared.scope.Scope.{Scope}
@@ -8,7 +8,6 @@ use Rattle.vf_declared.specs.declared.declaration.Fields.{Fields}
 use Rattle.vf_base.specs.declared.refusal.Refusal.{Refusal}
 use Rattle.vf_base.specs.declared.place.Place.{Place}
 use Rattle.std.specs.Str.{bytes_eq}
-use Rattle.std.specs.Cmp.Lexicographic.{bytes_decides}
 use Rattle.std.proofs.lemmas.List.{append_assoc, append-nil}
 use Rattle.vf_declared.specs.declared.locals.Local.{Local}
 use Rattle.vf_declared.specs.declared.locals.Local.TheVariants as locals

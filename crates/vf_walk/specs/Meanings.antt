@@ -1,5 +1,5 @@
 -- What annotations inside C text do to what is declared.
-use Rattle.std.specs.Prelude.{ℕ}
+use Rattle.std.specs.Prelude.{ℕ, Ok}
 use Rattle.vf_declared.specs.declared.scope.Scope.{Scope}
 use Rattle.vf_syntax.specs.declared.contract.Contract.{Contract}
 use Rattle.vf_syntax.specs.declared.contract.Invariant.{Invariant}
@@ -18,3 +18,7 @@ pub record Meanings : Type 0 where
   pub command : GhostCommandTree → Scope → Walked
   -- a ghost item
   pub item : GhostItem → Scope → Walked
+
+-- annotations that declare nothing and are never refused
+abbrev pub no_meanings : Meanings
+no_meanings = record { contract = λ o c s. Ok s; invariant = λ f i s. Ok s; command = λ c s. Ok s; item = λ i s. Ok s }

@@ -52,3 +52,39 @@ pub trait Annotations {
     fn item(&self, scope: &mut Scope, item: &GhostItem) -> Result<(), RuleFault>
         ensures { Gives result scope.new (meanings.item item.now scope.old) };
 }
+
+/// Annotations that declare nothing, as where the grammar without them was read.
+#[derive(Clone, Copy, Debug)]
+pub struct NoAnnotations;
+
+impl Annotations for NoAnnotations {
+    ghost use Rattle.vf_walk.specs.Meanings.{no_meanings};
+
+    ghost meanings = { no_meanings };
+
+    fn contract(
+        &self,
+        _scope: &mut Scope,
+        _owner: Owner,
+        _contract: &Contract,
+    ) -> Result<(), RuleFault> {
+        Ok(())
+    }
+
+    fn invariant(
+        &self,
+        _scope: &mut Scope,
+        _file: u32,
+        _invariant: &Invariant,
+    ) -> Result<(), RuleFault> {
+        Ok(())
+    }
+
+    fn command(&self, _scope: &mut Scope, _command: &GhostCommand) -> Result<(), RuleFault> {
+        Ok(())
+    }
+
+    fn item(&self, _scope: &mut Scope, _item: &GhostItem) -> Result<(), RuleFault> {
+        Ok(())
+    }
+}

@@ -11,7 +11,9 @@ mod names;
 mod parameters;
 mod statement;
 mod structure;
+#[cfg(test)]
+mod tests;
 mod variable;
 
-pub use annotations::{Annotations, Owner};
+pub use annotations::{Annotations, NoAnnotations, Owner};
 pub use items::walk_items;
