@@ -1,18 +1,16 @@
 -- Unknown sorts among those of which something or nothing is known.
-use Rattle.std.proofs.Common.{◌≡◌, ◌≢◌, ℕ, zero, suc, ◌+◌, ◌<◌, ◌≤◌, List, [], ◌∷◌, ◌++◌, length, Bool, true, false, Some, None, Ok, refl, sym, ◌∙◌, ap, subst, arith, append_assoc, replicate}
+use Rattle.std.proofs.Common.{◌≡◌, ℕ, ◌+◌, ◌<◌, ◌≤◌, [], ◌∷◌, ◌++◌, length, Bool, true, false, None, refl, ◌∙◌, ap, arith, append_assoc, replicate}
 use Rattle.std.specs.Prelude.{nat_lt, if◌then◌else◌}
 use Rattle.std.proofs.lemmas.Bool.Decides.{nat_tests}
 use Rattle.std.proofs.lemmas.List.{length-replicate, length-append, replicate_more}
-use Rattle.vf_base.specs.declared.place.Place.{Place}
 use Rattle.vf_sorts.specs.declared.sort.Head.TheVariants as heads
 use Rattle.vf_sorts.specs.Sorts.{Sort, Sorts, sort, no_sorts, and_sort, row}
-use Rattle.vf_sorts.specs.Unknowns.{EachUnknown, EachUnknownOf, IsBelow, Known, instance, instances, leaf}
+use Rattle.vf_sorts.specs.Unknowns.{EachUnknownOf, IsBelow, Known, instance, instances, leaf}
 use Rattle.vf_sorts.proofs.Learning.{each_more}
 use Rattle.vf_declared.specs.declared.scope.Scope.{Scope}
 use Rattle.vf_sorting.specs.declared.context.Context.{Context}
-use Rattle.vf_sorting.specs.declared.scheme.Scheme.{Scheme}
 use Rattle.vf_sorting.specs.Kinds.{with_fresh}
-use Rattle.vf_sorting.specs.Scopes.{AreBelow, IsSchemeBelow, IsWithin}
+use Rattle.vf_sorting.specs.Scopes.{IsWithin}
 
 -- below more where below less
 pub below_more : (m n : ℕ) → m ≤ n → (t : Sort) → IsBelow m t → IsBelow n t

@@ -1,12 +1,10 @@
 -- Answers for expressions of which a sort is wanted, and for operators, from the answers for their parts.
-use Rattle.std.proofs.Common.{◌≡◌, ℕ, ◌+◌, ◌<◌, ◌≤◌, Bool, true, false, List, [], ◌∷◌, length, drop, Result, Ok, Err, Some, slice_get, refl, sym, ◌∙◌, ap, ap₂, subst, arith}
+use Rattle.std.proofs.Common.{◌≡◌, ℕ, ◌+◌, ◌≤◌, Bool, true, false, List, [], ◌∷◌, length, drop, Result, Ok, Err, Some, slice_get, sym, ◌∙◌, ap, ap₂, subst, arith}
 use Rattle.std.specs.Prelude.{◌&&◌, ◌||◌, nat_eq}
-use Rattle.std.proofs.lemmas.Bool.Decides.{nat_tests}
 use Rattle.vf_base.specs.declared.int_type.IntType.{IntType}
 use Rattle.vf_base.specs.declared.place.Place.{Place}
 use Rattle.vf_base.specs.declared.refusal.Refusal.{Refusal}
 use Rattle.vf_base.specs.declared.refusal.RuleFault.{RuleFault}
-use Rattle.vf_base.specs.declared.refusal.RuleFault.TheVariants as faults
 use Rattle.vf_base.specs.declared.rule.Rule.TheVariants as rules
 use Rattle.vf_sorts.specs.Sorts.{Sort}
 use Rattle.vf_sorts.specs.Unknowns.{Equates, IsBelow, Known, instance}
@@ -15,7 +13,7 @@ use Rattle.vf_syntax.specs.declared.operator.BinaryOperator.{BinaryOperator}
 use Rattle.vf_syntax.specs.GhostExprTree.{GhostExprTree, GhostExprTrees, ghost_expr_list, more_ghost_expr, no_ghost_expr, GhostLinkTree, GhostLinkTrees, ghost_link_list, more_ghost_link, no_ghost_link}
 use Rattle.vf_syntax.specs.GhostExprTree as tree
 use Rattle.vf_sorting.specs.declared.context.Context.{Context}
-use Rattle.vf_sorting.specs.Answers.{Answers, Tells, IsApart, AreChecked, AreLinked, IsChecked, IsEquated, IsLinked, IsMet, IsSorted}
+use Rattle.vf_sorting.specs.Answers.{Tells, IsApart, AreChecked, AreLinked, IsChecked, IsEquated, IsLinked, IsMet, IsSorted}
 use Rattle.vf_sorting.specs.HasSort as has
 use Rattle.vf_sorting.specs.IsRefused as refuses
 use Rattle.vf_sorting.specs.Kinds.{bool_sort, int_sort, is_any, is_pointer, pointer_sort, resolved, value_sort}

@@ -1,33 +1,30 @@
 -- Answers step by step: what is answered for the parts of an expression tells the answer for the whole.
-use Rattle.std.proofs.Common.{◌≡◌, ℕ, ◌+◌, ◌<◌, ◌≤◌, Bool, true, false, List, length, Some, None, Result, Ok, Err, refl, sym, ◌∙◌, ap, subst, arith}
-use Rattle.std.specs.Prelude.{◌&&◌, ◌||◌, nat_eq}
+use Rattle.std.proofs.Common.{◌≡◌, ℕ, ◌+◌, ◌≤◌, Bool, true, false, List, length, Some, None, Result, Ok, Err, refl, sym, ◌∙◌, ap, subst, arith}
 use Rattle.vf_base.specs.declared.int_type.IntType.{IntType}
 use Rattle.vf_base.specs.declared.place.Place.{Place}
 use Rattle.vf_base.specs.declared.refusal.Refusal.{Refusal}
 use Rattle.vf_base.specs.declared.refusal.RuleFault.{RuleFault}
 use Rattle.vf_base.specs.declared.refusal.RuleFault.TheVariants as faults
 use Rattle.vf_base.specs.declared.rule.Rule.TheVariants as rules
-use Rattle.vf_sorts.specs.Sorts.{Sort, sort}
-use Rattle.vf_sorts.specs.declared.sort.Head.TheVariants as heads
+use Rattle.vf_sorts.specs.Sorts.{Sort}
 use Rattle.vf_sorts.specs.Unknowns.{AreApart, Equates, IsBelow, Known, instance}
 use Rattle.vf_declared.specs.declared.scope.Scope.{Scope}
 use Rattle.vf_syntax.specs.declared.operator.BinaryOperator.{BinaryOperator}
 use Rattle.vf_syntax.specs.declared.operator.BinaryOperator.TheVariants as operators
-use Rattle.vf_syntax.specs.declared.operator.Level.{Level}
 use Rattle.vf_syntax.specs.declared.operator.UnaryOperator.{UnaryOperator}
 use Rattle.vf_syntax.specs.declared.operator.UnaryOperator.TheVariants as unaries
 use Rattle.vf_syntax.specs.GhostExprTree.{GhostExprTree, GhostExprTrees, GhostLinkTree, GhostLinkTrees}
 use Rattle.vf_syntax.specs.GhostExprTree as tree
 use Rattle.vf_sorting.specs.declared.context.Context.{Context}
 use Rattle.vf_sorting.specs.declared.scheme.Scheme.{Scheme}
-use Rattle.vf_sorting.specs.Answers.{Answers, Tells, IsApart, AreChecked, AreLinked, IsChecked, IsEquated, IsLinked, IsMet, IsSorted}
+use Rattle.vf_sorting.specs.Answers.{Answers, Tells, IsApart, AreChecked, IsChecked, IsEquated, IsLinked, IsMet, IsSorted}
 use Rattle.vf_sorting.specs.HasSort as has
 use Rattle.vf_sorting.specs.IsRefused as refuses
-use Rattle.vf_sorting.specs.Kinds.{bool_sort, int_sort, is_any, is_pointer, pointer_sort, resolved, value_sort, with_fresh}
-use Rattle.vf_sorting.specs.Operators.{count, goes_inside, is_equality, is_null, moves, operand_sort, place_of, prefix_sort, result_sort}
+use Rattle.vf_sorting.specs.Kinds.{bool_sort, int_sort, pointer_sort, with_fresh}
+use Rattle.vf_sorting.specs.Operators.{operand_sort, prefix_sort, result_sort}
 use Rattle.vf_sorting.specs.Refusals.{refused}
-use Rattle.vf_sorting.specs.Schemes.{application_scheme, name_scheme, names_predicate}
-use Rattle.vf_sorting.specs.Scopes.{IsSchemeBelow, IsWithin}
+use Rattle.vf_sorting.specs.Schemes.{name_scheme}
+use Rattle.vf_sorting.specs.Scopes.{IsWithin}
 use Rattle.vf_sorting.proofs.Below.{below_more, fresh_length, instance_below, within_more}
 
 -- a fault that tells one thing tells what follows from it

@@ -1,15 +1,13 @@
 -- Answers for expressions from the answers for their parts.
-use Rattle.std.proofs.Common.{◌≡◌, ◌≢◌, ℕ, ◌+◌, ◌<◌, ◌≤◌, Bool, true, false, List, [], ◌∷◌, length, zero, suc, Some, slice_get, Result, Ok, Err, refl, sym, ◌∙◌, ap, ap₂, subst, arith}
-use Rattle.std.specs.Prelude.{◌&&◌, ◌||◌, nat_eq}
+use Rattle.std.proofs.Common.{◌≡◌, ◌≢◌, ℕ, ◌+◌, ◌≤◌, Bool, true, false, List, [], ◌∷◌, length, zero, suc, Some, slice_get, Result, Ok, Err, refl, sym, ◌∙◌, ap, subst, arith}
+use Rattle.std.specs.Prelude.{nat_eq}
 use Rattle.std.proofs.lemmas.Bool.Decides.{nat_tests}
-use Rattle.vf_base.specs.declared.int_type.IntType.{IntType}
 use Rattle.vf_base.specs.declared.place.Place.{Place}
-use Rattle.vf_base.specs.declared.refusal.Refusal.{Refusal}
 use Rattle.vf_base.specs.declared.refusal.RuleFault.{RuleFault}
 use Rattle.vf_base.specs.declared.refusal.RuleFault.TheVariants as faults
 use Rattle.vf_base.specs.declared.rule.Rule.TheVariants as rules
 use Rattle.vf_sorts.specs.Sorts.{Sort}
-use Rattle.vf_sorts.specs.Unknowns.{Equates, IsBelow, Known, instance}
+use Rattle.vf_sorts.specs.Unknowns.{IsBelow, Known, instance}
 use Rattle.vf_declared.specs.declared.scope.Scope.{Scope}
 use Rattle.vf_syntax.specs.declared.operator.Level.{Level}
 use Rattle.vf_syntax.specs.declared.operator.UnaryOperator.{UnaryOperator}
@@ -17,7 +15,7 @@ use Rattle.vf_syntax.specs.GhostExprTree.{GhostExprTree, GhostExprTrees, ghost_e
 use Rattle.vf_syntax.specs.GhostExprTree as tree
 use Rattle.vf_sorting.specs.declared.context.Context.{Context}
 use Rattle.vf_sorting.specs.declared.scheme.Scheme.{Scheme}
-use Rattle.vf_sorting.specs.Answers.{Answers, Tells, AreChecked, AreLinked, IsChecked, IsMet, IsSorted}
+use Rattle.vf_sorting.specs.Answers.{Tells, AreChecked, AreLinked, IsChecked, IsMet, IsSorted}
 use Rattle.vf_sorting.specs.HasSort as has
 use Rattle.vf_sorting.specs.IsRefused as refuses
 use Rattle.vf_sorting.specs.Kinds.{bool_sort, with_fresh}
@@ -26,7 +24,7 @@ use Rattle.vf_sorting.specs.Refusals.{refused}
 use Rattle.vf_sorting.specs.Schemes.{application_scheme, names_predicate}
 use Rattle.vf_sorting.specs.Scopes.{AreBelow, IsSchemeBelow, IsWithin}
 use Rattle.vf_sorting.proofs.Below.{below_more, fresh_length, instance_below, within_more}
-use Rattle.vf_sorting.proofs.Steps.{fails, found, instance_within, no_sort, prefix_is, told}
+use Rattle.vf_sorting.proofs.Steps.{fails, found, instance_within, no_sort, prefix_is}
 
 -- ---- parentheses
 pub enclosed_fails : {s : Scope} {c : Context} {k k' : Known} {p : Place} {a : GhostExprTree} {res : Result Sort RuleFault} (e : RuleFault) → IsSorted s c k a (Err e) k' → res ≡ Err e → IsSorted s c k (tree.parenthesized p a) res k'

@@ -1,7 +1,7 @@
 -- Kinds of sorts, and sorts as far as they are known.
 use Rattle.std.specs.Prelude.{ℕ, Bool, true, false, ◌++◌, List, [], ◌∷◌, None, replicate, suc, zero}
 use Rattle.vf_sorts.specs.declared.sort.Head.TheVariants as heads
-use Rattle.vf_sorts.specs.Sorts.{Sort, sort, no_sorts, row}
+use Rattle.vf_sorts.specs.Sorts.{Sort, sort, row}
 use Rattle.vf_sorts.specs.Unknowns.{Known, by_known, filled, leaf}
 
 -- integers of every size

@@ -1,5 +1,5 @@
 -- What names may be used at in ghost text: sorts with type parameters, for which each use has sorts of its own.
-use Rattle.std.specs.Prelude.{ℕ, Bool, true, false, nat_eq, if◌then◌else◌, List, [], ◌∷◌, Option, Some, None, Result, Ok, Err, take, drop, ◌&&◌, codes}
+use Rattle.std.specs.Prelude.{ℕ, Bool, true, false, nat_eq, if◌then◌else◌, List, [], ◌∷◌, Option, Some, None, Result, Ok, Err, drop, ◌&&◌, codes}
 use Rattle.std.specs.List.{starts_with}
 use Rattle.vf_base.specs.declared.int_type.IntType.TheVariants as integers
 use Rattle.vf_base.specs.declared.place.Place.{Place}

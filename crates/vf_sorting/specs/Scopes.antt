@@ -1,5 +1,5 @@
 -- Scopes whose sorts have unknown sorts among those of which something or nothing is known.
-use Rattle.std.specs.Prelude.{◌≡◌, ℕ, ◌<◌, List, Option, Some, Ok}
+use Rattle.std.specs.Prelude.{◌≡◌, ℕ, ◌<◌, List, Some, Ok}
 use Rattle.vf_base.specs.declared.place.Place.{Place}
 use Rattle.vf_sorts.specs.Sorts.{Sort, row}
 use Rattle.vf_sorts.specs.Unknowns.{EachUnknownOf, IsBelow}

@@ -102,7 +102,7 @@ mutual
   below_told n (sort (heads.Datatype d) ts) = all_below_told n ts
   below_told n (sort heads.Predicate ts) = all_below_told n ts
 
-  all_below_told : (n : ℕ) (ts : Sorts) → IsTrue (all_numbered_below n ts) ↔ EachUnknownOf (λ u. u < n) ts
+  pub all_below_told : (n : ℕ) (ts : Sorts) → IsTrue (all_numbered_below n ts) ↔ EachUnknownOf (λ u. u < n) ts
   all_below_told n no_sorts = (λ e. tt, λ h. refl)
   all_below_told n (and_sort t ts) = both_told (numbered_below n t) (all_numbered_below n ts) (IsBelow n t) (EachUnknownOf (λ u. u < n) ts) (below_told n t) (all_below_told n ts)
 

@@ -3,7 +3,7 @@ use Rattle.std.specs.Prelude.{◌≡◌, ◌↔◌, length, ℕ, ◌+◌, ◌<�
 use Rattle.std.specs.Option.{option_map}
 use Rattle.vf_sorts.specs.declared.sort.Head.{Head}
 use Rattle.vf_sorts.specs.declared.sort.Head.TheVariants as heads
-use Rattle.vf_sorts.specs.Sorts.{Sort, Sorts, sort, no_sorts, and_sort}
+use Rattle.vf_sorts.specs.Sorts.{Sort, Sorts, sort, no_sorts, and_sort, row}
 use Rattle.vf_sorts.specs.Told.{AreAlike}
 
 -- sorts for the unknown ones, by their numbers
@@ -87,6 +87,10 @@ abbrev mutual
 -- the unknown sorts in a sort have numbers below this
 abbrev pub IsBelow : ℕ → Sort → Type 0
 IsBelow n s = EachUnknown (λ u. u < n) s
+
+-- the same of each of some sorts
+abbrev pub AreBelow : ℕ → List Sort → Type 0
+AreBelow n ss = EachUnknownOf (λ u. u < n) (row ss)
 
 -- whether the unknown sort in a head has a number below this, or its parts have such
 abbrev pub numbered_in_head : ℕ → Head → Bool → Bool

@@ -2,7 +2,7 @@
 
 ghost use Rattle.std.specs.Prelude.{◌≡◌, ◌↔◌, IsTrue};
 ghost use Rattle.vf_sorts.specs.Sorts.{row};
-ghost use Rattle.vf_sorts.specs.Unknowns.{IsBelow, all_numbered_below, is_in, is_in_some, numbered_below};
+ghost use Rattle.vf_sorts.specs.Unknowns.{AreBelow, IsBelow, all_numbered_below, is_in, is_in_some, numbered_below};
 
 use crate::sort::{Head, Sort, SortList};
 
@@ -62,4 +62,12 @@ pub fn is_below(count: usize, sort: &Sort) -> bool
     ensures { IsTrue result ↔ IsBelow count sort.now }
 {
     numbered_below(count, sort)
+}
+
+/// Whether the unknown sorts in each of some sorts have numbers below a count.
+#[tactic(auto, using(crate::proofs::Filled::all_below_told))]
+pub fn are_below(count: usize, sorts: &SortList) -> bool
+    ensures { IsTrue result ↔ AreBelow count sorts.now }
+{
+    all_numbered_below(count, sorts)
 }

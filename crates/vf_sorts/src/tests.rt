@@ -131,5 +131,10 @@ fn instances(rt: HostRuntime) -> Result<(), Fail> {
     assert!(rt; resolved.same(&sort_of(rt.alloc(), "0L")?));
     assert!(rt; unknowns.has(&sort_of(rt.alloc(), "stP")?));
     assert!(rt; !unknowns.has(&resolved));
+    let mut sorts = SortList::new(rt.alloc());
+    sorts.push(sort_of(rt.alloc(), "stP")?)?;
+    assert!(rt; unknowns.has_all(&sorts));
+    sorts.push(resolved)?;
+    assert!(rt; !unknowns.has_all(&sorts));
     Ok(())
 }

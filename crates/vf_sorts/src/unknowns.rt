@@ -1,12 +1,12 @@
 //! Unknown sorts, and what is known of them.
 
 ghost use Rattle.std.specs.Prelude.{◌≡◌, ◌↔◌, ◌+◌, ◌++◌, [], ◌<◌, ◌^◌, length, replicate, None, IsTrue, IfOk, OnOk, OnErr, MatchBool};
-ghost use Rattle.vf_sorts.specs.Unknowns.{Filling, Agrees, AgreesAsTold, AreApart, Equates, IsBelow, by_known, filled, instance, settling};
+ghost use Rattle.vf_sorts.specs.Unknowns.{Filling, Agrees, AgreesAsTold, AreApart, AreBelow, Equates, IsBelow, by_known, filled, instance, settling};
 
 use crate::filling::{resolve, settle};
 use crate::instance::instance;
-use crate::occurrence::is_below;
-use crate::sort::Sort;
+use crate::occurrence::{are_below, is_below};
+use crate::sort::{Sort, SortList};
 use crate::unify::unify;
 use std::alloc::Global;
 use std::marker::Model;
@@ -55,6 +55,13 @@ impl Unknowns {
         ensures { IsTrue result ↔ IsBelow (length self.now) sort.now }
     {
         is_below(self.known.len(), sort)
+    }
+
+    /// Whether the unknown sorts in each of some sorts are among them.
+    pub fn has_all(&self, sorts: &SortList) -> bool
+        ensures { IsTrue result ↔ AreBelow (length self.now) sorts.now }
+    {
+        are_below(self.known.len(), sorts)
     }
 
     /// One more, of which nothing is known; gives its number.

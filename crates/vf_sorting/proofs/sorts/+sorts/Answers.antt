@@ -1,4 +1,4 @@
-use Rattle.std.proofs.Common.{rules, ◌≡◌, ◌∙◌, ◌≤◌, length, Ok, Err, Some, None, slice_get, refl, sym, subst, arith}
+use Rattle.std.proofs.Common.{rules, ◌≡◌, ◌≤◌, length, Ok, Err, refl, sym, subst, arith}
 use Rattle.vf_sorting.proofs.Checks.{joined_linked, links_end, links_halt, links_next, met_alike, passed_end, passed_halt, passed_next, right_fails}
 use Rattle.vf_syntax.specs.GhostExprTree.{GhostLinkTree}
 use Rattle.vf_sorting.specs.Answers.{IsLinked}
