@@ -1,0 +1,15 @@
+//! Questions and their answers.
+//!
+//! A question asks whether facts entail a goal. It is answered by the closure of the facts and the goal's negation,
+//! fixpoints being unfolded: a conflict is a refutation of the negation.
+#![tactic(auto)]
+
+mod answer;
+mod asking;
+mod laws;
+#[cfg(test)]
+mod tests;
+
+pub use answer::{Answer, answered};
+pub use asking::{can_be_denied, denied, question};
+pub use laws::goals_are_counted;
