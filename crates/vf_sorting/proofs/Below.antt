@@ -4,27 +4,14 @@ use Rattle.std.specs.Prelude.{nat_lt, if◌then◌else◌}
 use Rattle.std.proofs.lemmas.Bool.Decides.{nat_tests}
 use Rattle.std.proofs.lemmas.List.{length-replicate, length-append, replicate_more}
 use Rattle.vf_sorts.specs.declared.sort.Head.TheVariants as heads
-use Rattle.vf_sorts.specs.Sorts.{Sort, Sorts, sort, no_sorts, and_sort, row}
+use Rattle.vf_sorts.specs.Sorts.{Sort, Sorts, sort, no_sorts, and_sort}
 use Rattle.vf_sorts.specs.Unknowns.{EachUnknownOf, IsBelow, Known, instance, instances, leaf}
 use Rattle.vf_sorts.proofs.Learning.{each_more}
-use Rattle.vf_declared.specs.declared.scope.Scope.{Scope}
-use Rattle.vf_sorting.specs.declared.context.Context.{Context}
 use Rattle.vf_sorting.specs.Kinds.{with_fresh}
-use Rattle.vf_sorting.specs.Scopes.{IsWithin}
 
 -- below more where below less
 pub below_more : (m n : ℕ) → m ≤ n → (t : Sort) → IsBelow m t → IsBelow n t
 below_more m n le t b = each_more (λ u. u < m) (λ u. u < n) (λ u lt. omega (arith, le, lt)) t b
-
-pub all_below_more : (m n : ℕ) → m ≤ n → (ts : Sorts) → EachUnknownOf (λ u. u < m) ts → EachUnknownOf (λ u. u < n) ts
-all_below_more m n le ts b = below_more m n le (sort heads.Int ts) b
-
-pub within_more : (s : Scope) (c : Context) (m n : ℕ) → m ≤ n → IsWithin s c m → IsWithin s c n
-within_more s c m n le w = record {
-  names = λ p x g e. let b = w.names p x g e in (all_below_more m n le (row g.arguments) b.0, below_more m n le g.result b.1);
-  applications = λ p x g e. let b = w.applications p x g e in (all_below_more m n le (row g.arguments) b.0, below_more m n le g.result b.1);
-  result = λ t e. below_more m n le t (w.result t e);
-}
 
 -- an instance has the unknown sorts of the scheme and those that stand for its type parameters
 mutual

@@ -1,5 +1,5 @@
 -- Answers step by step: what is answered for the parts of an expression tells the answer for the whole.
-use Rattle.std.proofs.Common.{◌≡◌, ℕ, ◌+◌, ◌≤◌, Bool, true, false, List, length, Some, None, Result, Ok, Err, refl, sym, ◌∙◌, ap, subst, arith}
+use Rattle.std.proofs.Common.{◌≡◌, ℕ, ◌+◌, ◌≤◌, Bool, true, false, List, length, Some, None, Result, Ok, Err, IsTrue, ◌↔◌, refl, sym, ◌∙◌, ap, subst, arith}
 use Rattle.vf_base.specs.declared.int_type.IntType.{IntType}
 use Rattle.vf_base.specs.declared.place.Place.{Place}
 use Rattle.vf_base.specs.declared.refusal.Refusal.{Refusal}
@@ -7,7 +7,7 @@ use Rattle.vf_base.specs.declared.refusal.RuleFault.{RuleFault}
 use Rattle.vf_base.specs.declared.refusal.RuleFault.TheVariants as faults
 use Rattle.vf_base.specs.declared.rule.Rule.TheVariants as rules
 use Rattle.vf_sorts.specs.Sorts.{Sort}
-use Rattle.vf_sorts.specs.Unknowns.{AreApart, Equates, IsBelow, Known, instance}
+use Rattle.vf_sorts.specs.Unknowns.{AreApart, AreBelow, Equates, IsBelow, Known, instance}
 use Rattle.vf_declared.specs.declared.scope.Scope.{Scope}
 use Rattle.vf_syntax.specs.declared.operator.BinaryOperator.{BinaryOperator}
 use Rattle.vf_syntax.specs.declared.operator.BinaryOperator.TheVariants as operators
@@ -24,8 +24,8 @@ use Rattle.vf_sorting.specs.Kinds.{bool_sort, int_sort, pointer_sort, with_fresh
 use Rattle.vf_sorting.specs.Operators.{operand_sort, prefix_sort, result_sort}
 use Rattle.vf_sorting.specs.Refusals.{refused}
 use Rattle.vf_sorting.specs.Schemes.{name_scheme}
-use Rattle.vf_sorting.specs.Scopes.{IsWithin}
-use Rattle.vf_sorting.proofs.Below.{below_more, fresh_length, instance_below, within_more}
+use Rattle.vf_sorting.specs.Scopes.{IsSchemeBelow}
+use Rattle.vf_sorting.proofs.Below.{below_more, fresh_length, instance_below}
 
 -- a fault that tells one thing tells what follows from it
 pub told : (Q R : Refusal → Type 0) (e : RuleFault) → ((r : Refusal) → Q r → R r) → Tells Q e → Tells R e
@@ -57,19 +57,7 @@ linked_memory q = record { answers = memory_on _ _ _ q }
 pub equated_memory : {A : Type 0} {k k' : Known} {t u : Sort} {p : Place} {res : Result A RuleFault} → res ≡ Err faults.Memory → IsEquated k t u p res k'
 equated_memory q = record { answers = memory_on _ _ _ q }
 
--- ---- scopes and sorts at later states
-pub sorted_within : {s : Scope} {c : Context} {k k' : Known} {e : GhostExprTree} {t : Sort} → IsSorted s c k e (Ok t) k' → IsWithin s c (length k) → IsWithin s c (length k')
-sorted_within a w = within_more _ _ _ _ a.answers.0 w
-
-pub checked_within : {s : Scope} {c : Context} {k k' : Known} {w : Sort} {p : Place} {e : GhostExprTree} → IsChecked {A = Unit {0}} s c k w p e (Ok tt) k' → IsWithin s c (length k) → IsWithin s c (length k')
-checked_within a w = within_more _ _ _ _ a.answers.0 w
-
-pub linked_within : {s : Scope} {c : Context} {k k' : Known} {z : Bool} {p : Place} {t u : Sort} {x : GhostLinkTree} → IsLinked s c k z p t x (Ok u) k' → IsWithin s c (length k) → IsWithin s c (length k')
-linked_within a w = within_more _ _ _ _ a.answers.0 w
-
-pub equated_within : {k k' : Known} {t u : Sort} {p : Place} (s : Scope) (c : Context) → IsEquated {A = Unit {0}} k t u p (Ok tt) k' → IsWithin s c (length k) → IsWithin s c (length k')
-equated_within s c a w = subst (IsWithin s c) (sym a.answers.long) w
-
+-- ---- sorts at later states
 pub sorted_below : {s : Scope} {c : Context} {k k' : Known} {e : GhostExprTree} {t : Sort} → IsSorted s c k e (Ok t) k' → IsBelow (length k') t
 sorted_below a = a.answers.1
 
@@ -152,8 +140,11 @@ true_sorted q = found bool_sort q (omega arith) tt has.truth
 pub false_sorted : {s : Scope} {c : Context} {k : Known} {p : Place} {t : Sort} → t ≡ bool_sort → IsSorted s c k (tree.false_ p) (Ok t) k
 false_sorted q = found bool_sort q (omega arith) tt has.falsehood
 
-pub result_sorted : {s : Scope} {c : Context} {k : Known} {p : Place} {t u : Sort} → IsWithin s c (length k) → c.result ≡ Some u → t ≡ u → IsSorted s c k (tree.result p) (Ok t) k
-result_sorted w r q = found _ q (omega arith) (w.result _ r) (has.result r)
+pub result_sorted : {s : Scope} {c : Context} {k : Known} {p : Place} {t u : Sort} {y : Bool} → c.result ≡ Some u → (IsTrue y ↔ IsBelow (length k) u) → y ≡ true → t ≡ u → IsSorted s c k (tree.result p) (Ok t) k
+result_sorted r b y q = found _ q (omega arith) (b.0 y) (has.result r (b.0 y))
+
+pub stray_result : {s : Scope} {c : Context} {k : Known} {p : Place} {u : Sort} {y : Bool} {e : RuleFault} → c.result ≡ Some u → (IsTrue y ↔ IsBelow (length k) u) → y ≡ false → e ≡ faults.Refused (refused rules.Typing p) → IsSorted s c k (tree.result p) (Err e) k
+stray_result r b y q = no_sort _ q (refuses.stray_result r (λ h. let yes_is = b.1 h in absurd cc))
 
 pub no_result : {s : Scope} {c : Context} {k : Known} {p : Place} {e : RuleFault} → e ≡ faults.Refused (refused rules.Name p) → c.result ≡ None → IsSorted s c k (tree.result p) (Err e) k
 no_result q n = no_sort _ q (refuses.no_result n)
@@ -181,9 +172,19 @@ name_refused e a q = fails _ e (λ r h. refuses.no_value h) a q
 pub instance_within : (k k' : Known) (first n : ℕ) (t u : Sort) → first ≡ length k → first + n ≤ length k' → IsBelow (length k) u → t ≡ instance first n u → IsBelow (length k') t
 instance_within k k' first n t u f l b q = subst (IsBelow (length k')) (sym q) (below_more (first + n) (length k') l _ (instance_below (length k) first n (omega (arith, f)) u b))
 
-pub name_sorted : {s : Scope} {c : Context} {k k' : Known} {p : Place} {x : List ℕ} {g : Scheme} {first : ℕ} {t : Sort} → IsWithin s c (length k) → name_scheme s p x ≡ Ok g → first ≡ length k → k' ≡ with_fresh k g.parameters → t ≡ instance first g.parameters g.result → IsSorted s c k (tree.name_ p x) (Ok t) k'
-name_sorted {s = s} {c = c} {k = k} {k' = k'} {p = p} {x = x} {g = g} {first = first} {t = t} w n f q e =
+pub name_sorted : {s : Scope} {c : Context} {k k' : Known} {p : Place} {x : List ℕ} {g : Scheme} {first : ℕ} {t : Sort} {y : Bool} → name_scheme s p x ≡ Ok g → (IsTrue y ↔ IsSchemeBelow (length k) g) → y ≡ true → first ≡ length k → k' ≡ with_fresh k g.parameters → t ≡ instance first g.parameters g.result → IsSorted s c k (tree.name_ p x) (Ok t) k'
+name_sorted {s = s} {c = c} {k = k} {k' = k'} {p = p} {x = x} {g = g} {first = first} {t = t} n w y f q e =
     let long : length k' ≡ length k + g.parameters = ap length q ∙ fresh_length k g.parameters in
     let is : t ≡ instance (length k) g.parameters g.result = e ∙ ap (λ (m : ℕ). instance m g.parameters g.result) f in
-    let b : IsBelow (length k') t = instance_within k k' first g.parameters t g.result f (omega (arith, long, f)) (w.names p x g n).1 e in
-    record { answers = (omega (arith, long), b, subst (λ (j : Known). has.HasSort s c k (tree.name_ p x) t j) (sym q) (subst (λ (u : Sort). has.HasSort s c k (tree.name_ p x) u (with_fresh k g.parameters)) (sym is) (has.name_ n))) }
+    let b : IsBelow (length k') t = instance_within k k' first g.parameters t g.result f (omega (arith, long, f)) (w.0 y).1 e in
+    record { answers = (omega (arith, long), b, subst (λ (j : Known). has.HasSort s c k (tree.name_ p x) t j) (sym q) (subst (λ (u : Sort). has.HasSort s c k (tree.name_ p x) u (with_fresh k g.parameters)) (sym is) (has.name_ n (w.0 y)))) }
+
+pub stray_name : {s : Scope} {c : Context} {k : Known} {p : Place} {x : List ℕ} {g : Scheme} {y : Bool} {e : RuleFault} → name_scheme s p x ≡ Ok g → (IsTrue y ↔ IsSchemeBelow (length k) g) → y ≡ false → e ≡ faults.Refused (refused rules.Typing p) → IsSorted s c k (tree.name_ p x) (Err e) k
+stray_name n w y q = no_sort _ q (refuses.stray_name n (λ h. let yes_is = w.1 h in absurd cc))
+
+-- a scheme's sorts are tested one after the other
+pub scheme_told : (n : ℕ) (g : Scheme) (x y : Bool) → (IsTrue x ↔ AreBelow n g.arguments) → x ≡ true → (IsTrue y ↔ IsBelow n g.result) → IsTrue y ↔ IsSchemeBelow n g
+scheme_told n g x y a t b = (λ h. (a.0 t, b.0 h), λ h. b.1 h.1)
+
+pub scheme_not_told : (n : ℕ) (g : Scheme) (x : Bool) → (IsTrue x ↔ AreBelow n g.arguments) → x ≡ false → IsTrue false ↔ IsSchemeBelow n g
+scheme_not_told n g x a t = (λ h. absurd cc, λ h. let yes_is = a.1 h.0 in absurd cc)

@@ -1,5 +1,5 @@
 -- Answers for expressions from the answers for their parts.
-use Rattle.std.proofs.Common.{◌≡◌, ◌≢◌, ℕ, ◌+◌, ◌≤◌, Bool, true, false, List, [], ◌∷◌, length, zero, suc, Some, slice_get, Result, Ok, Err, refl, sym, ◌∙◌, ap, subst, arith}
+use Rattle.std.proofs.Common.{◌≡◌, ◌≢◌, ℕ, ◌+◌, ◌≤◌, Bool, true, false, List, [], ◌∷◌, length, zero, suc, Some, slice_get, Result, Ok, Err, IsTrue, ◌↔◌, refl, sym, ◌∙◌, ap, subst, arith}
 use Rattle.std.specs.Prelude.{nat_eq}
 use Rattle.std.proofs.lemmas.Bool.Decides.{nat_tests}
 use Rattle.vf_base.specs.declared.place.Place.{Place}
@@ -7,7 +7,7 @@ use Rattle.vf_base.specs.declared.refusal.RuleFault.{RuleFault}
 use Rattle.vf_base.specs.declared.refusal.RuleFault.TheVariants as faults
 use Rattle.vf_base.specs.declared.rule.Rule.TheVariants as rules
 use Rattle.vf_sorts.specs.Sorts.{Sort}
-use Rattle.vf_sorts.specs.Unknowns.{IsBelow, Known, instance}
+use Rattle.vf_sorts.specs.Unknowns.{AreBelow, IsBelow, Known, instance}
 use Rattle.vf_declared.specs.declared.scope.Scope.{Scope}
 use Rattle.vf_syntax.specs.declared.operator.Level.{Level}
 use Rattle.vf_syntax.specs.declared.operator.UnaryOperator.{UnaryOperator}
@@ -22,8 +22,8 @@ use Rattle.vf_sorting.specs.Kinds.{bool_sort, with_fresh}
 use Rattle.vf_sorting.specs.Operators.{count, is_null, place_of, prefix_sort}
 use Rattle.vf_sorting.specs.Refusals.{refused}
 use Rattle.vf_sorting.specs.Schemes.{application_scheme, names_predicate}
-use Rattle.vf_sorting.specs.Scopes.{AreBelow, IsSchemeBelow, IsWithin}
-use Rattle.vf_sorting.proofs.Below.{below_more, fresh_length, instance_below, within_more}
+use Rattle.vf_sorting.specs.Scopes.{IsSchemeBelow}
+use Rattle.vf_sorting.proofs.Below.{below_more, fresh_length, instance_below}
 use Rattle.vf_sorting.proofs.Steps.{fails, found, instance_within, no_sort, prefix_is}
 
 -- ---- parentheses
@@ -89,30 +89,30 @@ local_applied q n y = no_sort _ q (refuses.applied_local (sym n ∙ y))
 pub scheme_fails : {s : Scope} {c : Context} {k k' : Known} {p : Place} {f : List ℕ} {xs : GhostExprTrees} {y : Bool} {res : Result Sort RuleFault} (e : RuleFault) → y ≡ names_predicate s k f → y ≡ false → Tells (λ r. application_scheme s c.own p f ≡ Err r) e → res ≡ Err e → IsSorted s c k (tree.application p f xs) res k'
 scheme_fails e n y a q = fails _ e (λ r h. refuses.no_function (sym n ∙ y) h) a q
 
-pub count_fails : {s : Scope} {c : Context} {k : Known} {p : Place} {f : List ℕ} {g : Scheme} {y : Bool} {e : RuleFault} (xs : List GhostExprTree) → y ≡ names_predicate s k f → y ≡ false → application_scheme s c.own p f ≡ Ok g → length g.arguments ≢ length xs → e ≡ faults.Refused (refused rules.Typing p) → IsSorted s c k (tree.application p f (ghost_expr_list xs)) (Err e) k
-count_fails {g = g} xs n y a l q = no_sort _ q (refuses.other_count (sym n ∙ y) a (other_count (length g.arguments) xs l))
+pub count_fails : {s : Scope} {c : Context} {k : Known} {p : Place} {f : List ℕ} {g : Scheme} {y b : Bool} {e : RuleFault} (xs : List GhostExprTree) → y ≡ names_predicate s k f → y ≡ false → application_scheme s c.own p f ≡ Ok g → (IsTrue b ↔ IsSchemeBelow (length k) g) → b ≡ true → length g.arguments ≢ length xs → e ≡ faults.Refused (refused rules.Typing p) → IsSorted s c k (tree.application p f (ghost_expr_list xs)) (Err e) k
+count_fails {g = g} xs n y a w b l q = no_sort _ q (refuses.other_count (sym n ∙ y) a (w.0 b) (other_count (length g.arguments) xs l))
 
-pub arguments_fail : {s : Scope} {c : Context} {k j k' : Known} {p : Place} {f : List ℕ} {g : Scheme} {y : Bool} {first : ℕ} {res : Result Sort RuleFault} (xs : List GhostExprTree) (e : RuleFault) → y ≡ names_predicate s k f → y ≡ false → application_scheme s c.own p f ≡ Ok g → length g.arguments ≡ length xs → first ≡ length k → j ≡ with_fresh k g.parameters → AreChecked {A = Unit {0}} s c j first g.parameters g.arguments (ghost_expr_list xs) (Err e) k' → res ≡ Err e → IsSorted s c k (tree.application p f (ghost_expr_list xs)) res k'
-arguments_fail {s = s} {c = c} {k = k} {g = g} {first = first} xs e n y a l f q i w =
-    fails _ e (λ r h. refuses.argument (sym n ∙ y) a (same_count (length g.arguments) xs l) (subst (λ (m : ℕ). refuses.AnyFails s c (with_fresh k g.parameters) m g.parameters g.arguments (ghost_expr_list xs) r) f (subst (λ (u : Known). refuses.AnyFails s c u first g.parameters g.arguments (ghost_expr_list xs) r) q h))) i.answers w
+pub arguments_fail : {s : Scope} {c : Context} {k j k' : Known} {p : Place} {f : List ℕ} {g : Scheme} {y b : Bool} {first : ℕ} {res : Result Sort RuleFault} (xs : List GhostExprTree) (e : RuleFault) → y ≡ names_predicate s k f → y ≡ false → application_scheme s c.own p f ≡ Ok g → (IsTrue b ↔ IsSchemeBelow (length k) g) → b ≡ true → length g.arguments ≡ length xs → first ≡ length k → j ≡ with_fresh k g.parameters → AreChecked {A = Unit {0}} s c j first g.parameters g.arguments (ghost_expr_list xs) (Err e) k' → res ≡ Err e → IsSorted s c k (tree.application p f (ghost_expr_list xs)) res k'
+arguments_fail {s = s} {c = c} {k = k} {g = g} {first = first} xs e n y a v b l f q i w =
+    fails _ e (λ r h. refuses.argument (sym n ∙ y) a (v.0 b) (same_count (length g.arguments) xs l) (subst (λ (m : ℕ). refuses.AnyFails s c (with_fresh k g.parameters) m g.parameters g.arguments (ghost_expr_list xs) r) f (subst (λ (u : Known). refuses.AnyFails s c u first g.parameters g.arguments (ghost_expr_list xs) r) q h))) i.answers w
 
-pub applied_sorted : {s : Scope} {c : Context} {k j k' : Known} {p : Place} {f : List ℕ} {xs : GhostExprTrees} {g : Scheme} {y : Bool} {first : ℕ} {t : Sort} → IsWithin s c (length k) → y ≡ names_predicate s k f → y ≡ false → application_scheme s c.own p f ≡ Ok g → first ≡ length k → j ≡ with_fresh k g.parameters → AreChecked {A = Unit {0}} s c j first g.parameters g.arguments xs (Ok tt) k' → t ≡ instance first g.parameters g.result → IsSorted s c k (tree.application p f xs) (Ok t) k'
-applied_sorted {s = s} {c = c} {k = k} {j = j} {k' = k'} {p = p} {f = f} {xs = xs} {g = g} {first = first} {t = t} w n y a m q i e =
+pub applied_sorted : {s : Scope} {c : Context} {k j k' : Known} {p : Place} {f : List ℕ} {xs : GhostExprTrees} {g : Scheme} {y b : Bool} {first : ℕ} {t : Sort} → y ≡ names_predicate s k f → y ≡ false → application_scheme s c.own p f ≡ Ok g → (IsTrue b ↔ IsSchemeBelow (length k) g) → b ≡ true → first ≡ length k → j ≡ with_fresh k g.parameters → AreChecked {A = Unit {0}} s c j first g.parameters g.arguments xs (Ok tt) k' → t ≡ instance first g.parameters g.result → IsSorted s c k (tree.application p f xs) (Ok t) k'
+applied_sorted {s = s} {c = c} {k = k} {j = j} {k' = k'} {p = p} {f = f} {xs = xs} {g = g} {first = first} {t = t} n y a w b m q i e =
     let long : length j ≡ length k + g.parameters = ap length q ∙ fresh_length k g.parameters in
     let le = i.answers.0 in
     let is : t ≡ instance (length k) g.parameters g.result = e ∙ ap (λ (m : ℕ). instance m g.parameters g.result) m in
-    found _ is (omega (arith, long, le)) (subst (IsBelow (length k')) is (instance_within k k' first g.parameters t g.result m (omega (arith, long, m, le)) (w.applications p f g a).1 e))
-    (has.application (sym n ∙ y) a (subst (λ (m : ℕ). has.ArePassed s c (with_fresh k g.parameters) m g.parameters g.arguments xs k') m (subst (λ (u : Known). has.ArePassed s c u first g.parameters g.arguments xs k') q i.answers.1)))
+    found _ is (omega (arith, long, le)) (subst (IsBelow (length k')) is (instance_within k k' first g.parameters t g.result m (omega (arith, long, m, le)) (w.0 b).1 e))
+    (has.application (sym n ∙ y) a (w.0 b) (subst (λ (m : ℕ). has.ArePassed s c (with_fresh k g.parameters) m g.parameters g.arguments xs k') m (subst (λ (u : Known). has.ArePassed s c u first g.parameters g.arguments xs k') q i.answers.1)))
+
+pub stray_application : {s : Scope} {c : Context} {k : Known} {p : Place} {f : List ℕ} {xs : GhostExprTrees} {g : Scheme} {y b : Bool} {e : RuleFault} → y ≡ names_predicate s k f → y ≡ false → application_scheme s c.own p f ≡ Ok g → (IsTrue b ↔ IsSchemeBelow (length k) g) → b ≡ false → e ≡ faults.Refused (refused rules.Typing p) → IsSorted s c k (tree.application p f xs) (Err e) k
+stray_application n y a w b q = no_sort _ q (refuses.stray_application (sym n ∙ y) a (λ h. let yes_is = w.1 h in absurd cc))
 
 -- what is needed of a scheme for its arguments
-pub scheme_within : (s : Scope) (c : Context) (k j : Known) (n : ℕ) → IsWithin s c (length k) → j ≡ with_fresh k n → IsWithin s c (length j)
-scheme_within s c k j n w q = let long : length j ≡ length k + n = ap length q ∙ fresh_length k n in within_more s c (length k) (length j) (omega (arith, long)) w
-
 pub scheme_first : (k j : Known) (first n : ℕ) → first ≡ length k → j ≡ with_fresh k n → first + n ≤ length j
 scheme_first k j first n f q = let long : length j ≡ length k + n = ap length q ∙ fresh_length k n in omega (arith, long, f)
 
-pub scheme_below : (s : Scope) (c : Context) (k : Known) (p : Place) (f : List ℕ) (g : Scheme) (first : ℕ) → IsWithin s c (length k) → application_scheme s c.own p f ≡ Ok g → first ≡ length k → IsSchemeBelow first g
-scheme_below s c k p f g first w a q = subst (λ (m : ℕ). IsSchemeBelow m g) (sym q) (w.applications p f g a)
+pub scheme_below : (k : Known) (g : Scheme) (first : ℕ) (b : Bool) → (IsTrue b ↔ IsSchemeBelow (length k) g) → b ≡ true → first ≡ length k → IsSchemeBelow first g
+scheme_below k g first b w h q = subst (λ (m : ℕ). IsSchemeBelow m g) (sym q) (w.0 h)
 
 -- a parameter at the unknown sorts that stand for type parameters
 each_below : (n : ℕ) (ts : List Sort) (i : ℕ) (t : Sort) → slice_get ts i ≡ Some t → AreBelow n ts → IsBelow n t

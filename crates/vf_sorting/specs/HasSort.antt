@@ -1,9 +1,9 @@
--- Which sorts expressions have, by one rule for each form: from what is known of unknown sorts to what is known then.
+-- Which sorts expressions have, by one rule for each form: from what is known of unknown sorts to what is known then. What names mean has no unknown sorts but those of which something or nothing is known.
 use Rattle.std.specs.Prelude.{◌≡◌, ℕ, Bool, true, false, ◌&&◌, ◌||◌, nat_eq, List, [], ◌∷◌, length, Some, Ok}
 use Rattle.vf_base.specs.declared.int_type.IntType.{IntType}
 use Rattle.vf_base.specs.declared.place.Place.{Place}
 use Rattle.vf_sorts.specs.Sorts.{Sort}
-use Rattle.vf_sorts.specs.Unknowns.{Known, Equates, instance}
+use Rattle.vf_sorts.specs.Unknowns.{Equates, IsBelow, Known, instance}
 use Rattle.vf_declared.specs.declared.scope.Scope.{Scope}
 use Rattle.vf_syntax.specs.declared.operator.BinaryOperator.{BinaryOperator}
 use Rattle.vf_syntax.specs.declared.operator.Level.{Level}
@@ -14,6 +14,7 @@ use Rattle.vf_sorting.specs.declared.context.Context.{Context}
 use Rattle.vf_sorting.specs.declared.scheme.Scheme.{Scheme}
 use Rattle.vf_sorting.specs.Kinds.{bool_sort, int_sort, is_any, is_pointer, pointer_sort, resolved, value_sort, with_fresh}
 use Rattle.vf_sorting.specs.Schemes.{application_scheme, name_scheme, names_predicate}
+use Rattle.vf_sorting.specs.Scopes.{IsSchemeBelow}
 use Rattle.vf_sorting.specs.Operators.{goes_inside, is_equality, is_null, moves, operand_sort, place_of, prefix_sort, result_sort}
 
 mutual
@@ -22,11 +23,11 @@ mutual
     number : {k : Known} {p : Place} {n : ℕ} {i : IntType} → HasSort s c k (tree.number p n i) int_sort k
     truth : {k : Known} {p : Place} → HasSort s c k (tree.true_ p) bool_sort k
     falsehood : {k : Known} {p : Place} → HasSort s c k (tree.false_ p) bool_sort k
-    result : {k : Known} {p : Place} {t : Sort} → c.result ≡ Some t → HasSort s c k (tree.result p) t k
+    result : {k : Known} {p : Place} {t : Sort} → c.result ≡ Some t → IsBelow (length k) t → HasSort s c k (tree.result p) t k
     this_ : {k : Known} {p : Place} → c.has_this ≡ true → HasSort s c k (tree.this_ p) pointer_sort k
     thread : {k : Known} {p : Place} → c.has_thread ≡ true → HasSort s c k (tree.current_thread p) int_sort k
-    name_ : {k : Known} {p : Place} {x : List ℕ} {g : Scheme} → name_scheme s p x ≡ Ok g → HasSort s c k (tree.name_ p x) (instance (length k) g.parameters g.result) (with_fresh k g.parameters)
-    application : {k k' : Known} {p : Place} {f : List ℕ} {xs : GhostExprTrees} {g : Scheme} → names_predicate s k f ≡ false → application_scheme s c.own p f ≡ Ok g → ArePassed s c (with_fresh k g.parameters) (length k) g.parameters g.arguments xs k' → HasSort s c k (tree.application p f xs) (instance (length k) g.parameters g.result) k'
+    name_ : {k : Known} {p : Place} {x : List ℕ} {g : Scheme} → name_scheme s p x ≡ Ok g → IsSchemeBelow (length k) g → HasSort s c k (tree.name_ p x) (instance (length k) g.parameters g.result) (with_fresh k g.parameters)
+    application : {k k' : Known} {p : Place} {f : List ℕ} {xs : GhostExprTrees} {g : Scheme} → names_predicate s k f ≡ false → application_scheme s c.own p f ≡ Ok g → IsSchemeBelow (length k) g → ArePassed s c (with_fresh k g.parameters) (length k) g.parameters g.arguments xs k' → HasSort s c k (tree.application p f xs) (instance (length k) g.parameters g.result) k'
     parenthesized : {k k' : Known} {p : Place} {a : GhostExprTree} {t : Sort} → HasSort s c k a t k' → HasSort s c k (tree.parenthesized p a) t k'
     conditional : {k k₁ k₂ k' : Known} {p : Place} {a b d : GhostExprTree} {t u : Sort} → Passes s c k bool_sort (place_of a) a k₁ → HasSort s c k₁ b t k₂ → Meets s c k₂ (is_null b) t d u k' → HasSort s c k (tree.conditional p a b d) u k'
     prefixed : {k k' : Known} {p : Place} {o : UnaryOperator} {a : GhostExprTree} → Passes s c k (prefix_sort o) (place_of a) a k' → HasSort s c k (tree.unary p o a) (prefix_sort o) k'

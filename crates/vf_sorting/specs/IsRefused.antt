@@ -1,10 +1,10 @@
 -- Which expressions are refused, by which rule and at which place: the first fault in the order of the text, what stands in an expression before what stands around it.
-use Rattle.std.specs.Prelude.{◌≡◌, ℕ, Bool, true, false, ◌&&◌, ◌||◌, nat_eq, List, ◌∷◌, length, None, Ok, Err}
+use Rattle.std.specs.Prelude.{◌≡◌, ℕ, Bool, true, false, ◌&&◌, ◌||◌, nat_eq, List, ◌∷◌, length, Some, None, Ok, Err}
 use Rattle.vf_base.specs.declared.place.Place.{Place}
 use Rattle.vf_base.specs.declared.refusal.Refusal.{Refusal}
 use Rattle.vf_base.specs.declared.rule.Rule.TheVariants as rules
 use Rattle.vf_sorts.specs.Sorts.{Sort}
-use Rattle.vf_sorts.specs.Unknowns.{Known, AreApart, Equates, instance}
+use Rattle.vf_sorts.specs.Unknowns.{AreApart, Equates, IsBelow, Known, instance}
 use Rattle.vf_declared.specs.declared.scope.Scope.{Scope}
 use Rattle.vf_syntax.specs.declared.operator.BinaryOperator.{BinaryOperator}
 use Rattle.vf_syntax.specs.declared.operator.Level.{Level}
@@ -15,6 +15,7 @@ use Rattle.vf_sorting.specs.declared.context.Context.{Context}
 use Rattle.vf_sorting.specs.declared.scheme.Scheme.{Scheme}
 use Rattle.vf_sorting.specs.Kinds.{bool_sort, int_sort, is_any, is_pointer, resolved, with_fresh}
 use Rattle.vf_sorting.specs.Schemes.{application_scheme, name_scheme, names_predicate}
+use Rattle.vf_sorting.specs.Scopes.{IsSchemeBelow}
 use Rattle.vf_sorting.specs.Operators.{count, goes_inside, is_equality, is_null, moves, operand_sort, place_of, prefix_sort}
 use Rattle.vf_sorting.specs.Refusals.{refused}
 use Rattle.vf_sorting.specs.HasSort.{HasSort, LinkHasSort, Passes}
@@ -23,13 +24,16 @@ mutual
   -- an expression is refused
   pub data IsRefused (s : Scope) (c : Context) : Known → GhostExprTree → Refusal → Type 0 where
     no_result : {k : Known} {p : Place} → c.result ≡ None → IsRefused s c k (tree.result p) (refused rules.Name p)
+    stray_result : {k : Known} {p : Place} {t : Sort} → c.result ≡ Some t → (IsBelow (length k) t → ⊥) → IsRefused s c k (tree.result p) (refused rules.Typing p)
     no_this : {k : Known} {p : Place} → c.has_this ≡ false → IsRefused s c k (tree.this_ p) (refused rules.Name p)
     no_thread : {k : Known} {p : Place} → c.has_thread ≡ false → IsRefused s c k (tree.current_thread p) (refused rules.Name p)
     no_value : {k : Known} {p : Place} {x : List ℕ} {r : Refusal} → name_scheme s p x ≡ Err r → IsRefused s c k (tree.name_ p x) r
+    stray_name : {k : Known} {p : Place} {x : List ℕ} {g : Scheme} → name_scheme s p x ≡ Ok g → (IsSchemeBelow (length k) g → ⊥) → IsRefused s c k (tree.name_ p x) (refused rules.Typing p)
     applied_local : {k : Known} {p : Place} {f : List ℕ} {xs : GhostExprTrees} → names_predicate s k f ≡ true → IsRefused s c k (tree.application p f xs) (refused rules.Typing p)
     no_function : {k : Known} {p : Place} {f : List ℕ} {xs : GhostExprTrees} {r : Refusal} → names_predicate s k f ≡ false → application_scheme s c.own p f ≡ Err r → IsRefused s c k (tree.application p f xs) r
-    other_count : {k : Known} {p : Place} {f : List ℕ} {xs : GhostExprTrees} {g : Scheme} → names_predicate s k f ≡ false → application_scheme s c.own p f ≡ Ok g → nat_eq (length g.arguments) (count xs) ≡ false → IsRefused s c k (tree.application p f xs) (refused rules.Typing p)
-    argument : {k : Known} {p : Place} {f : List ℕ} {xs : GhostExprTrees} {g : Scheme} {r : Refusal} → names_predicate s k f ≡ false → application_scheme s c.own p f ≡ Ok g → nat_eq (length g.arguments) (count xs) ≡ true → AnyFails s c (with_fresh k g.parameters) (length k) g.parameters g.arguments xs r → IsRefused s c k (tree.application p f xs) r
+    stray_application : {k : Known} {p : Place} {f : List ℕ} {xs : GhostExprTrees} {g : Scheme} → names_predicate s k f ≡ false → application_scheme s c.own p f ≡ Ok g → (IsSchemeBelow (length k) g → ⊥) → IsRefused s c k (tree.application p f xs) (refused rules.Typing p)
+    other_count : {k : Known} {p : Place} {f : List ℕ} {xs : GhostExprTrees} {g : Scheme} → names_predicate s k f ≡ false → application_scheme s c.own p f ≡ Ok g → IsSchemeBelow (length k) g → nat_eq (length g.arguments) (count xs) ≡ false → IsRefused s c k (tree.application p f xs) (refused rules.Typing p)
+    argument : {k : Known} {p : Place} {f : List ℕ} {xs : GhostExprTrees} {g : Scheme} {r : Refusal} → names_predicate s k f ≡ false → application_scheme s c.own p f ≡ Ok g → IsSchemeBelow (length k) g → nat_eq (length g.arguments) (count xs) ≡ true → AnyFails s c (with_fresh k g.parameters) (length k) g.parameters g.arguments xs r → IsRefused s c k (tree.application p f xs) r
     parenthesized : {k : Known} {p : Place} {a : GhostExprTree} {r : Refusal} → IsRefused s c k a r → IsRefused s c k (tree.parenthesized p a) r
     test : {k : Known} {p : Place} {a b d : GhostExprTree} {r : Refusal} → Fails s c k bool_sort (place_of a) a r → IsRefused s c k (tree.conditional p a b d) r
     first_branch : {k k₁ : Known} {p : Place} {a b d : GhostExprTree} {r : Refusal} → Passes s c k bool_sort (place_of a) a k₁ → IsRefused s c k₁ b r → IsRefused s c k (tree.conditional p a b d) r

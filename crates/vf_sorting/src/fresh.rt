@@ -1,11 +1,13 @@
 //! Uses of what has type parameters, and sorts that are made equal.
 
-ghost use Rattle.std.specs.Prelude.{◌≡◌, ◌+◌, ◌<◌, ◌≤◌, ◌^◌, length, IfOk, OnOk};
+ghost use Rattle.std.specs.Prelude.{◌≡◌, ◌+◌, ◌<◌, ◌≤◌, ◌^◌, length, IfOk, OnOk, IsTrue, ◌↔◌};
 ghost use Rattle.vf_sorts.specs.Unknowns.{IsBelow};
 ghost use Rattle.vf_sorting.specs.Kinds.{with_fresh};
 ghost use Rattle.vf_sorting.specs.Answers.{IsEquated};
+ghost use Rattle.vf_sorting.specs.Scopes.{IsSchemeBelow};
 
 use crate::refusal::refused;
+use crate::scheme::Scheme;
 use vf_base::{Memory, Place, Rule, RuleFault};
 use vf_sorts::{Sort, Unknowns};
 
@@ -40,4 +42,15 @@ pub fn equate(
         return Err(refused(Rule::Typing, place));
     }
     Ok(())
+}
+
+/// Whether the unknown sorts in a scheme are among those of which something or nothing is known.
+#[tactic(auto, using(crate::proofs::Steps::scheme_told, crate::proofs::Steps::scheme_not_told))]
+pub fn has_scheme(unknowns: &Unknowns, scheme: &Scheme) -> bool
+    ensures { IsTrue result ↔ IsSchemeBelow (length unknowns.now) scheme.now }
+{
+    if !unknowns.has_all(&scheme.arguments) {
+        return false;
+    }
+    unknowns.has(&scheme.result)
 }

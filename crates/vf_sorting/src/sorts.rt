@@ -7,11 +7,11 @@ ghost use Rattle.vf_syntax.specs.GhostExprTree.{ghost_expr_list, ghost_link_list
 ghost use Rattle.vf_sorting.specs.Answers.{AreChecked, AreLinked, IsChecked, IsLinked, IsMet, IsSorted};
 ghost use Rattle.vf_sorting.specs.Kinds.{is_pointer, resolved};
 ghost use Rattle.vf_sorting.specs.Operators.{goes_inside, place_of};
-ghost use Rattle.vf_sorting.specs.Scopes.{IsSchemeBelow, IsWithin};
+ghost use Rattle.vf_sorting.specs.Scopes.{IsSchemeBelow};
 
 use crate::context::Context;
 use crate::forms::{is_null, place_of};
-use crate::fresh::{equate, fresh};
+use crate::fresh::{equate, fresh, has_scheme};
 use crate::kinds::{
     bool_sort, either_any, int_sort, is_any, is_null_beside, is_pointer, pointer_sort, value_sort,
 };
@@ -38,7 +38,6 @@ pub fn sorted(
     unknowns: &mut Unknowns,
     expr: &GhostExpr,
 ) -> Result<Sort, RuleFault>
-    requires within { IsWithin scope.now context.now (length unknowns.old) }
     ensures { IsSorted scope.now context.now unknowns.old expr.now result unknowns.new }
 {
     let place = expr.place;
@@ -79,7 +78,6 @@ pub fn checked(
     wanted: &Sort,
     expr: &GhostExpr,
 ) -> Result<(), RuleFault>
-    requires within { IsWithin scope.now context.now (length unknowns.old) }
     requires wanted { IsBelow (length unknowns.old) wanted.now }
     ensures { IsChecked scope.now context.now unknowns.old wanted.now (place_of expr.now) expr.now result unknowns.new }
 {
@@ -89,7 +87,7 @@ pub fn checked(
 
 /// Whether an expression passes for a wanted sort; refused at a place where its sort is another one.
 #[cycle(sorts)]
-#[tactic(auto, using(crate::proofs::Steps::checked_memory, crate::proofs::Checks::inside_fails, crate::proofs::Checks::inside_passes, crate::proofs::Checks::null_passes, crate::proofs::Checks::number_whole, crate::proofs::Checks::choice_whole, crate::proofs::Shapes::goes_no_further, crate::proofs::Checks::choice_test_fails, crate::proofs::Checks::choice_first_fails, crate::proofs::Checks::choice_second_fails, crate::proofs::Checks::choice_passes, crate::proofs::Steps::checked_within, crate::proofs::Steps::checked_keeps, crate::proofs::Steps::bool_below))]
+#[tactic(auto, using(crate::proofs::Steps::checked_memory, crate::proofs::Checks::inside_fails, crate::proofs::Checks::inside_passes, crate::proofs::Checks::null_passes, crate::proofs::Checks::number_whole, crate::proofs::Checks::choice_whole, crate::proofs::Shapes::goes_no_further, crate::proofs::Checks::choice_test_fails, crate::proofs::Checks::choice_first_fails, crate::proofs::Checks::choice_second_fails, crate::proofs::Checks::choice_passes, crate::proofs::Steps::checked_keeps, crate::proofs::Steps::bool_below))]
 fn checked_at(
     alloc: Global,
     scope: &Scope,
@@ -99,7 +97,6 @@ fn checked_at(
     place: Place,
     expr: &GhostExpr,
 ) -> Result<(), RuleFault>
-    requires within { IsWithin scope.now context.now (length unknowns.old) }
     requires wanted { IsBelow (length unknowns.old) wanted.now }
     ensures { IsChecked scope.now context.now unknowns.old wanted.now place expr.now result unknowns.new }
 {
@@ -142,7 +139,6 @@ fn compared(
     place: Place,
     expr: &GhostExpr,
 ) -> Result<(), RuleFault>
-    requires within { IsWithin scope.now context.now (length unknowns.old) }
     requires wanted { IsBelow (length unknowns.old) wanted.now }
     requires whole { goes_inside (is_pointer (resolved unknowns.old wanted.now)) expr.now ≡ false }
     ensures { IsChecked scope.now context.now unknowns.old wanted.now place expr.now result unknowns.new }
@@ -168,7 +164,6 @@ fn met(
     left: Operand,
     expr: &GhostExpr,
 ) -> Result<Sort, RuleFault>
-    requires within { IsWithin scope.now context.now (length unknowns.old) }
     requires left { IsBelow (length unknowns.old) left.sort }
     ensures { IsMet scope.now context.now unknowns.old left.is_null left.sort expr.now result unknowns.new }
 {
@@ -200,7 +195,6 @@ fn enclosed(
     place: Place,
     inner: &GhostExpr,
 ) -> Result<Sort, RuleFault>
-    requires within { IsWithin scope.now context.now (length unknowns.old) }
     ensures { IsSorted scope.now context.now unknowns.old (tree.parenthesized place inner.now) result unknowns.new }
 {
     let sort = sorted(alloc, scope, context, unknowns, inner)?;
@@ -209,7 +203,7 @@ fn enclosed(
 
 /// A choice at a place.
 #[cycle(sorts)]
-#[tactic(auto, using(crate::proofs::Wholes::test_fails, crate::proofs::Wholes::first_fails, crate::proofs::Wholes::second_fails, crate::proofs::Wholes::choice_sorted, crate::proofs::Steps::checked_within, crate::proofs::Steps::sorted_within, crate::proofs::Steps::sorted_below, crate::proofs::Steps::bool_below))]
+#[tactic(auto, using(crate::proofs::Wholes::test_fails, crate::proofs::Wholes::first_fails, crate::proofs::Wholes::second_fails, crate::proofs::Wholes::choice_sorted, crate::proofs::Steps::sorted_below, crate::proofs::Steps::bool_below))]
 fn chosen(
     alloc: Global,
     scope: &Scope,
@@ -220,7 +214,6 @@ fn chosen(
     yes: &GhostExpr,
     no: &GhostExpr,
 ) -> Result<Sort, RuleFault>
-    requires within { IsWithin scope.now context.now (length unknowns.old) }
     ensures { IsSorted scope.now context.now unknowns.old (tree.conditional place test.now yes.now no.now) result unknowns.new }
 {
     let truth = bool_sort(alloc);
@@ -247,7 +240,6 @@ fn prefixed(
     operator: UnaryOperator,
     operand: &GhostExpr,
 ) -> Result<Sort, RuleFault>
-    requires within { IsWithin scope.now context.now (length unknowns.old) }
     ensures { IsSorted scope.now context.now unknowns.old (tree.unary place operator operand.now) result unknowns.new }
 {
     let wanted = prefix_sort(alloc, operator);
@@ -257,7 +249,7 @@ fn prefixed(
 
 /// An operator and its operand behind a left operand.
 #[cycle(sorts)]
-#[tactic(auto, using(crate::proofs::Steps::linked_memory, crate::proofs::Checks::compared_fails, crate::proofs::Checks::compared_linked, crate::proofs::Checks::moved_fails, crate::proofs::Checks::moved_linked, crate::proofs::Checks::left_fails, crate::proofs::Checks::right_fails, crate::proofs::Checks::joined_linked, crate::proofs::Steps::int_below, crate::proofs::Steps::operand_below, crate::proofs::Steps::equated_within))]
+#[tactic(auto, using(crate::proofs::Steps::linked_memory, crate::proofs::Checks::compared_fails, crate::proofs::Checks::compared_linked, crate::proofs::Checks::moved_fails, crate::proofs::Checks::moved_linked, crate::proofs::Checks::left_fails, crate::proofs::Checks::right_fails, crate::proofs::Checks::joined_linked, crate::proofs::Steps::int_below, crate::proofs::Steps::operand_below))]
 fn linked(
     alloc: Global,
     scope: &Scope,
@@ -266,7 +258,6 @@ fn linked(
     left: Operand,
     link: &GhostLink,
 ) -> Result<Sort, RuleFault>
-    requires within { IsWithin scope.now context.now (length unknowns.old) }
     requires left { IsBelow (length unknowns.old) left.sort }
     ensures { IsLinked scope.now context.now unknowns.old left.is_null left.place left.sort link.now result unknowns.new }
 {
@@ -297,7 +288,6 @@ fn all_linked(
     start: Operand,
     links: &GhostLinkList,
 ) -> Result<Sort, RuleFault>
-    requires within { IsWithin scope.now context.now (length unknowns.old) }
     requires start { IsBelow (length unknowns.old) start.sort }
     ensures { AreLinked scope.now context.now unknowns.old start.is_null start.place start.sort (ghost_link_list links.now) result unknowns.new }
 {
@@ -319,7 +309,7 @@ fn all_linked(
 
 /// Operands at a place that are joined by operators of one level.
 #[cycle(sorts)]
-#[tactic(auto, using(crate::proofs::Wholes::start_fails, crate::proofs::Wholes::chain_fails, crate::proofs::Wholes::chain_sorted, crate::proofs::Steps::sorted_within, crate::proofs::Steps::sorted_below))]
+#[tactic(auto, using(crate::proofs::Wholes::start_fails, crate::proofs::Wholes::chain_fails, crate::proofs::Wholes::chain_sorted, crate::proofs::Steps::sorted_below))]
 fn chained(
     alloc: Global,
     scope: &Scope,
@@ -330,7 +320,6 @@ fn chained(
     start: &GhostExpr,
     links: &GhostLinkList,
 ) -> Result<Sort, RuleFault>
-    requires within { IsWithin scope.now context.now (length unknowns.old) }
     ensures { IsSorted scope.now context.now unknowns.old (tree.chain place level start.now (ghost_link_list links.now)) result unknowns.new }
 {
     let sort = sorted(alloc, scope, context, unknowns, start)?;
@@ -355,7 +344,6 @@ fn passed(
     scheme: &Scheme,
     arguments: &GhostExprList,
 ) -> Result<(), RuleFault>
-    requires within { IsWithin scope.now context.now (length unknowns.old) }
     requires scheme { IsSchemeBelow first scheme.now }
     requires first { first + scheme.now.parameters ≤ length unknowns.old }
     requires fits { first + scheme.now.parameters < 2 ^ 64 }
@@ -377,7 +365,7 @@ fn passed(
 
 /// A name at a place in front of arguments.
 #[cycle(sorts)]
-#[tactic(auto, using(crate::proofs::Steps::sorted_memory, crate::proofs::Wholes::local_applied, crate::proofs::Wholes::scheme_fails, crate::proofs::Wholes::count_fails, crate::proofs::Wholes::arguments_fail, crate::proofs::Wholes::applied_sorted, crate::proofs::Wholes::scheme_within, crate::proofs::Wholes::scheme_first, crate::proofs::Wholes::scheme_below))]
+#[tactic(auto, using(crate::proofs::Steps::sorted_memory, crate::proofs::Wholes::local_applied, crate::proofs::Wholes::scheme_fails, crate::proofs::Wholes::count_fails, crate::proofs::Wholes::stray_application, crate::proofs::Wholes::arguments_fail, crate::proofs::Wholes::applied_sorted, crate::proofs::Wholes::scheme_first, crate::proofs::Wholes::scheme_below))]
 fn applied(
     alloc: Global,
     scope: &Scope,
@@ -387,13 +375,15 @@ fn applied(
     name: &Text,
     arguments: &GhostExprList,
 ) -> Result<Sort, RuleFault>
-    requires within { IsWithin scope.now context.now (length unknowns.old) }
     ensures { IsSorted scope.now context.now unknowns.old (tree.application place name.now (ghost_expr_list arguments.now)) result unknowns.new }
 {
     if names_predicate(alloc, scope, unknowns, name)? {
         return Err(refused(Rule::Typing, place));
     }
     let scheme = application_scheme(alloc, scope, context.own, place, name)?;
+    if !has_scheme(unknowns, &scheme) {
+        return Err(refused(Rule::Typing, place));
+    }
     if scheme.arguments.len() != arguments.len() {
         return Err(refused(Rule::Typing, place));
     }

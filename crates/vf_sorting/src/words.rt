@@ -1,12 +1,10 @@
 //! Words and names.
 
-ghost use Rattle.std.specs.Prelude.{◌≡◌, length};
 ghost use Rattle.vf_syntax.specs.GhostExprTree as tree;
 ghost use Rattle.vf_sorting.specs.Answers.{IsSorted};
-ghost use Rattle.vf_sorting.specs.Scopes.{IsWithin};
 
 use crate::context::Context;
-use crate::fresh::fresh;
+use crate::fresh::{fresh, has_scheme};
 use crate::kinds::{int_sort, pointer_sort};
 use crate::names::name_scheme;
 use crate::refusal::refused;
@@ -17,7 +15,7 @@ use vf_sorts::{Sort, Unknowns};
 
 /// `result` at a place.
 
-#[tactic(auto, using(crate::proofs::Steps::result_sorted, crate::proofs::Steps::no_result, crate::proofs::Steps::sorted_memory))]
+#[tactic(auto, using(crate::proofs::Steps::result_sorted, crate::proofs::Steps::no_result, crate::proofs::Steps::stray_result, crate::proofs::Steps::sorted_memory))]
 pub fn result_word(
     alloc: Global,
     scope: &Scope,
@@ -25,11 +23,13 @@ pub fn result_word(
     unknowns: &mut Unknowns,
     place: Place,
 ) -> Result<Sort, RuleFault>
-    requires within { IsWithin scope.now context.now (length unknowns.old) }
     ensures { IsSorted scope.now context.now unknowns.old (tree.result place) result unknowns.new }
 {
     match &context.result {
         Some(sort) => {
+            if !unknowns.has(sort) {
+                return Err(refused(Rule::Typing, place));
+            }
             let sort = sort.copy(alloc)?;
             Ok(sort)
         }
@@ -74,7 +74,7 @@ pub fn thread_word(
 }
 
 /// A name at a place.
-#[tactic(auto, using(crate::proofs::Steps::name_refused, crate::proofs::Steps::name_sorted, crate::proofs::Steps::sorted_memory))]
+#[tactic(auto, using(crate::proofs::Steps::name_refused, crate::proofs::Steps::stray_name, crate::proofs::Steps::name_sorted, crate::proofs::Steps::sorted_memory))]
 pub fn named(
     alloc: Global,
     scope: &Scope,
@@ -83,10 +83,12 @@ pub fn named(
     place: Place,
     name: &Text,
 ) -> Result<Sort, RuleFault>
-    requires within { IsWithin scope.now context.now (length unknowns.old) }
     ensures { IsSorted scope.now context.now unknowns.old (tree.name_ place name.now) result unknowns.new }
 {
     let scheme = name_scheme(alloc, scope, place, name)?;
+    if !has_scheme(unknowns, &scheme) {
+        return Err(refused(Rule::Typing, place));
+    }
     let first = fresh(unknowns, scheme.parameters)?;
     let sort = unknowns.instance(first, scheme.parameters, &scheme.result)?;
     Ok(sort)

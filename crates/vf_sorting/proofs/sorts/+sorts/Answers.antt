@@ -2,17 +2,15 @@ use Rattle.std.proofs.Common.{rules, ◌≡◌, ◌≤◌, length, Ok, Err, refl
 use Rattle.vf_sorting.proofs.Checks.{joined_linked, links_end, links_halt, links_next, met_alike, passed_end, passed_halt, passed_next, right_fails}
 use Rattle.vf_syntax.specs.GhostExprTree.{GhostLinkTree}
 use Rattle.vf_sorting.specs.Answers.{IsLinked}
-use Rattle.vf_sorting.proofs.Steps.{checked_within, linked_within}
-use Rattle.vf_sorting.proofs.Wholes.{applied_sorted, scheme_below, scheme_fails, scheme_first, scheme_within}
+use Rattle.vf_sorting.proofs.Wholes.{applied_sorted, scheme_below, scheme_fails, scheme_first}
 use Rattle.vf_sorting.proofs.sorts.+sorts.Goals as goal
 
 pub all_linked-loop-at-init : goal.all_linked-loop-at-init
-all_linked-loop-at-init t c = record { scope = c.requires.within; place = refl; below = c.requires.start; on = λ r k a. a }
+all_linked-loop-at-init t c = record { place = refl; below = c.requires.start; on = λ r k a. a }
 
 pub all_linked-loop-at-preserved : goal.all_linked-loop-at-preserved
 all_linked-loop-at-preserved t c =
     record {
-      scope = linked_within c.in_ok-sort.ensures c.loop-at.invariant.scope;
       place = refl;
       below = c.in_ok-sort.ensures.answers.1;
       on = λ r k a. c.loop-at.invariant.on r k (links_next c.args.links.now c.loop-at.at (sym c.in-Some.ensures) c.loop-at.invariant.place c.in_ok-sort.ensures a);
@@ -29,14 +27,13 @@ all_linked-returns t c =
     c.loop-at.invariant.on _ _ (links_end c.args.links.now c.loop-at.at l c.loop-at.invariant.below)
 
 pub passed-loop-at-init : goal.passed-loop-at-init
-passed-loop-at-init t c = record { scope = c.requires.within; room = c.requires.first; on = λ r k a. a }
+passed-loop-at-init t c = record { room = c.requires.first; on = λ r k a. a }
 
 pub passed-loop-at-preserved : goal.passed-loop-at-preserved
 passed-loop-at-preserved t c =
     let l = c.loop-at.invariant.room in
     let m = c.in_ok-checked.ensures.answers.0 in
     record {
-      scope = checked_within c.in_ok-checked.ensures c.loop-at.invariant.scope;
       room = omega (arith, l, m);
       on = λ r k a. c.loop-at.invariant.on r k (passed_next c.args.scheme.now.arguments c.args.arguments.now c.loop-at.at (sym c.in-Some.ensures) (sym c.in-Some-get.ensures) c.in_ok-wanted.ensures c.in_ok-checked.ensures a);
     }
@@ -59,25 +56,14 @@ applied-returns-in_err-scheme t c =
     scheme_fails _ c.in_ok-names_predicate.ensures c.if-branch.false c.in_err-scheme.ensures e
 
 pub applied-returns : goal.applied-returns
-applied-returns t c = applied_sorted c.requires.within c.in_ok-names_predicate.ensures c.if-branch.false c.in_ok-scheme.ensures c.in_ok-first.ensures.first c.in_ok-first.ensures.added c.in_ok-passed.ensures c.in_ok-sort.ensures
+applied-returns t c = applied_sorted c.in_ok-names_predicate.ensures c.if-branch.false c.in_ok-scheme.ensures c.has_scheme.ensures c.if-not-has_scheme.false c.in_ok-first.ensures.first c.in_ok-first.ensures.added c.in_ok-passed.ensures c.in_ok-sort.ensures
 
 pub applied-passed-requires : goal.applied-passed-requires
 applied-passed-requires t c =
     let a = c.len.ensures in
     let b = c.len-2.ensures in
-    let n = c.if-len.false in (
-      search rules,
-      (
-        scheme_within _ _ _ _ _ c.requires.within c.in_ok-first.ensures.added,
-        (
-          scheme_below _ _ c.args.unknowns.now _ _ c.in_ok-scheme.scheme _ c.requires.within c.in_ok-scheme.ensures c.in_ok-first.ensures.first,
-          (
-            scheme_first c.args.unknowns.now _ _ _ c.in_ok-first.ensures.first c.in_ok-first.ensures.added,
-            (c.in_ok-first.ensures.fits, omega (arith, a, b, n)),
-          ),
-        ),
-      ),
-    )
+    let n = c.if-len.false in
+    (search rules, (scheme_below c.args.unknowns.now c.in_ok-scheme.scheme _ _ c.has_scheme.ensures c.if-not-has_scheme.false c.in_ok-first.ensures.first, (scheme_first c.args.unknowns.now _ _ _ c.in_ok-first.ensures.first c.in_ok-first.ensures.added, (c.in_ok-first.ensures.fits, omega (arith, a, b, n)))))
 
 pub linked-returns-in_err-checked-2 : goal.linked-returns-in_err-checked-2
 linked-returns-in_err-checked-2 t c =

@@ -4,7 +4,6 @@ use Rattle.vf_sorts.specs.Sorts.{Sort}
 use Rattle.vf_sorts.specs.Unknowns.{IsBelow, Known}
 use Rattle.vf_syntax.specs.GhostExprTree.{ghost_expr_list, ghost_expr_nodes, ghost_expr_nodes_all, ghost_link_list, ghost_link_nodes, ghost_link_nodes_all}
 use Rattle.vf_sorting.specs.Answers.{AreChecked, AreLinked}
-use Rattle.vf_sorting.specs.Scopes.{IsWithin}
 use Rattle.vf_sorting.proofs.sorts.+sorts.Given as goal
 
 abbrev pub decreases-sorted : goal.decreases-sorted
@@ -40,7 +39,6 @@ decreases-all_linked l = 5 * ghost_link_nodes_all (ghost_link_list l.links.now)
 -- what is answered for the operands that are left is the answer for all
 abbrev pub invariant-all_linked-loop-at : goal.invariant-all_linked-loop-at
 invariant-all_linked-loop-at l = record {
-  scope : IsWithin l.fn.scope l.fn.context (length l.unknowns);
   place : l.left.place ≡ l.fn.start.place;
   below : IsBelow (length l.unknowns) l.left.sort;
   on : (r : Result Sort RuleFault) (k : Known) → AreLinked l.fn.scope l.fn.context l.unknowns l.left.is_null l.left.place l.left.sort (ghost_link_list (drop l.at l.fn.links)) r k → AreLinked l.fn.scope l.fn.context l.fn.unknowns l.fn.start.is_null l.fn.start.place l.fn.start.sort (ghost_link_list l.fn.links) r k;
@@ -55,7 +53,6 @@ decreases-passed l = 5 * ghost_expr_nodes_all (ghost_expr_list l.arguments.now)
 -- what is answered for the arguments that are left is the answer for all
 abbrev pub invariant-passed-loop-at : goal.invariant-passed-loop-at
 invariant-passed-loop-at l = record {
-  scope : IsWithin l.fn.scope l.fn.context (length l.unknowns);
   room : l.fn.first + l.fn.scheme.parameters ≤ length l.unknowns;
   on : (r : Result (Unit {0}) RuleFault) (k : Known) → AreChecked l.fn.scope l.fn.context l.unknowns l.fn.first l.fn.scheme.parameters (drop l.at l.fn.scheme.arguments) (ghost_expr_list (drop l.at l.fn.arguments)) r k → AreChecked l.fn.scope l.fn.context l.fn.unknowns l.fn.first l.fn.scheme.parameters l.fn.scheme.arguments (ghost_expr_list l.fn.arguments) r k;
 }

@@ -6,4 +6,4 @@ pub returns-in_err-scheme : goal.returns-in_err-scheme
 returns-in_err-scheme c = let e : c.from_residual.result ≡ Err c.in_err-scheme.field-0.0 = search rules in name_refused _ c.in_err-scheme.ensures e
 
 pub returns : goal.returns
-returns c = name_sorted c.requires.within c.in_ok-scheme.ensures c.in_ok-first.ensures.first c.in_ok-first.ensures.added c.in_ok-sort.ensures
+returns c = name_sorted c.in_ok-scheme.ensures c.has_scheme.ensures c.if-not-has_scheme.false c.in_ok-first.ensures.first c.in_ok-first.ensures.added c.in_ok-sort.ensures
