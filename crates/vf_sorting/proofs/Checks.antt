@@ -115,27 +115,27 @@ pub compared_linked : {s : Scope} {c : Context} {k k' : Known} {z y : Bool} {p g
 compared_linked {s = s} {c = c} {k = k} {k' = k'} {z = z} {p = p} {g = g} {t = t} {o = o} {a = a} y h i v =
     subst (λ (u : Sort). IsLinked s c k z p t (tree.ghost_link g o a) (Ok u) k') (sym v) (record { answers = (i.answers.0, tt, has.compared (sym y ∙ h) i.answers.2) })
 
-pub moved_fails : {s : Scope} {c : Context} {k k' : Known} {z y x : Bool} {p g : Place} {t f w : Sort} {o : BinaryOperator} {a : GhostExprTree} {res : Result Sort RuleFault} (e : RuleFault) → y ≡ is_equality o → y ≡ false → f ≡ resolved k t → x ≡ moves s o f → x ≡ true → w ≡ int_sort → IsChecked {A = Unit {0}} s c k w (place_of a) a (Err e) k' → res ≡ Err e → IsLinked s c k z p t (tree.ghost_link g o a) res k'
-moved_fails {s = s} {c = c} {k = k} {o = o} {a = a} e y h f x l w i q = link_fails _ e (λ r m. refuses.moved (sym y ∙ h) (ap (moves s o) (sym f) ∙ sym x ∙ l) (subst (λ (u : Sort). refuses.Fails s c k u (place_of a) a r) w m)) i.answers q
+pub moved_fails : {s : Scope} {c : Context} {k k' : Known} {z y x : Bool} {p g : Place} {t f w : Sort} {o : BinaryOperator} {a : GhostExprTree} {res : Result Sort RuleFault} (e : RuleFault) → y ≡ is_equality o → y ≡ false → f ≡ resolved k t → x ≡ moves o f → x ≡ true → w ≡ int_sort → IsChecked {A = Unit {0}} s c k w (place_of a) a (Err e) k' → res ≡ Err e → IsLinked s c k z p t (tree.ghost_link g o a) res k'
+moved_fails {s = s} {c = c} {k = k} {o = o} {a = a} e y h f x l w i q = link_fails _ e (λ r m. refuses.moved (sym y ∙ h) (ap (moves o) (sym f) ∙ sym x ∙ l) (subst (λ (u : Sort). refuses.Fails s c k u (place_of a) a r) w m)) i.answers q
 
-pub moved_linked : {s : Scope} {c : Context} {k k' : Known} {z y x : Bool} {p g : Place} {t f w v : Sort} {o : BinaryOperator} {a : GhostExprTree} → y ≡ is_equality o → y ≡ false → f ≡ resolved k t → x ≡ moves s o f → x ≡ true → w ≡ int_sort → IsChecked {A = Unit {0}} s c k w (place_of a) a (Ok tt) k' → v ≡ pointer_sort → IsLinked s c k z p t (tree.ghost_link g o a) (Ok v) k'
+pub moved_linked : {s : Scope} {c : Context} {k k' : Known} {z y x : Bool} {p g : Place} {t f w v : Sort} {o : BinaryOperator} {a : GhostExprTree} → y ≡ is_equality o → y ≡ false → f ≡ resolved k t → x ≡ moves o f → x ≡ true → w ≡ int_sort → IsChecked {A = Unit {0}} s c k w (place_of a) a (Ok tt) k' → v ≡ pointer_sort → IsLinked s c k z p t (tree.ghost_link g o a) (Ok v) k'
 moved_linked {s = s} {c = c} {k = k} {k' = k'} {z = z} {p = p} {g = g} {t = t} {o = o} {a = a} y h f x l w i v =
     subst (λ (u : Sort). IsLinked s c k z p t (tree.ghost_link g o a) (Ok u) k') (sym v)
-    (record { answers = (i.answers.0, tt, has.moved (sym y ∙ h) (ap (moves s o) (sym f) ∙ sym x ∙ l) (subst (λ (u : Sort). has.Passes s c k u (place_of a) a k') w i.answers.1)) })
+    (record { answers = (i.answers.0, tt, has.moved (sym y ∙ h) (ap (moves o) (sym f) ∙ sym x ∙ l) (subst (λ (u : Sort). has.Passes s c k u (place_of a) a k') w i.answers.1)) })
 
-pub left_fails : {s : Scope} {c : Context} {k k' : Known} {z y x : Bool} {p g : Place} {t f w : Sort} {o : BinaryOperator} {a : GhostExprTree} {res : Result Sort RuleFault} (e : RuleFault) → y ≡ is_equality o → y ≡ false → f ≡ resolved k t → x ≡ moves s o f → x ≡ false → w ≡ operand_sort o → IsEquated {A = Unit {0}} k t w p (Err e) k' → res ≡ Err e → IsLinked s c k z p t (tree.ghost_link g o a) res k'
+pub left_fails : {s : Scope} {c : Context} {k k' : Known} {z y x : Bool} {p g : Place} {t f w : Sort} {o : BinaryOperator} {a : GhostExprTree} {res : Result Sort RuleFault} (e : RuleFault) → y ≡ is_equality o → y ≡ false → f ≡ resolved k t → x ≡ moves o f → x ≡ false → w ≡ operand_sort o → IsEquated {A = Unit {0}} k t w p (Err e) k' → res ≡ Err e → IsLinked s c k z p t (tree.ghost_link g o a) res k'
 left_fails {s = s} {c = c} {k = k} {z = z} {p = p} {g = g} {t = t} {o = o} {a = a} e y h f x l w i q =
-    link_fails (IsApart k t (operand_sort o) p) e (λ r m. subst (refuses.LinkFails s c k z p t (tree.ghost_link g o a)) (sym m.1) (refuses.left (sym y ∙ h) (ap (moves s o) (sym f) ∙ sym x ∙ l) m.0)) (subst (λ (u : Sort). Tells (IsApart k t u p) e) w i.answers) q
+    link_fails (IsApart k t (operand_sort o) p) e (λ r m. subst (refuses.LinkFails s c k z p t (tree.ghost_link g o a)) (sym m.1) (refuses.left (sym y ∙ h) (ap (moves o) (sym f) ∙ sym x ∙ l) m.0)) (subst (λ (u : Sort). Tells (IsApart k t u p) e) w i.answers) q
 
-pub right_fails : {s : Scope} {c : Context} {k k₁ k' : Known} {z y x : Bool} {p g : Place} {t f w : Sort} {o : BinaryOperator} {a : GhostExprTree} {res : Result Sort RuleFault} (e : RuleFault) → y ≡ is_equality o → y ≡ false → f ≡ resolved k t → x ≡ moves s o f → x ≡ false → w ≡ operand_sort o → IsEquated {A = Unit {0}} k t w p (Ok tt) k₁ → IsChecked {A = Unit {0}} s c k₁ w (place_of a) a (Err e) k' → res ≡ Err e → IsLinked s c k z p t (tree.ghost_link g o a) res k'
+pub right_fails : {s : Scope} {c : Context} {k k₁ k' : Known} {z y x : Bool} {p g : Place} {t f w : Sort} {o : BinaryOperator} {a : GhostExprTree} {res : Result Sort RuleFault} (e : RuleFault) → y ≡ is_equality o → y ≡ false → f ≡ resolved k t → x ≡ moves o f → x ≡ false → w ≡ operand_sort o → IsEquated {A = Unit {0}} k t w p (Ok tt) k₁ → IsChecked {A = Unit {0}} s c k₁ w (place_of a) a (Err e) k' → res ≡ Err e → IsLinked s c k z p t (tree.ghost_link g o a) res k'
 right_fails {s = s} {c = c} {k = k} {k₁ = k₁} {t = t} {o = o} {a = a} e y h f x l w j i q =
-    link_fails _ e (λ r m. refuses.right (sym y ∙ h) (ap (moves s o) (sym f) ∙ sym x ∙ l) (subst (λ (u : Sort). Equates k t u k₁) w j.answers) (subst (λ (u : Sort). refuses.Fails s c k₁ u (place_of a) a r) w m)) i.answers q
+    link_fails _ e (λ r m. refuses.right (sym y ∙ h) (ap (moves o) (sym f) ∙ sym x ∙ l) (subst (λ (u : Sort). Equates k t u k₁) w j.answers) (subst (λ (u : Sort). refuses.Fails s c k₁ u (place_of a) a r) w m)) i.answers q
 
-pub joined_linked : {s : Scope} {c : Context} {k k₁ k' : Known} {z y x : Bool} {p g : Place} {t f w v : Sort} {o : BinaryOperator} {a : GhostExprTree} → y ≡ is_equality o → y ≡ false → f ≡ resolved k t → x ≡ moves s o f → x ≡ false → w ≡ operand_sort o → IsEquated {A = Unit {0}} k t w p (Ok tt) k₁ → IsChecked {A = Unit {0}} s c k₁ w (place_of a) a (Ok tt) k' → v ≡ result_sort o → IsLinked s c k z p t (tree.ghost_link g o a) (Ok v) k'
+pub joined_linked : {s : Scope} {c : Context} {k k₁ k' : Known} {z y x : Bool} {p g : Place} {t f w v : Sort} {o : BinaryOperator} {a : GhostExprTree} → y ≡ is_equality o → y ≡ false → f ≡ resolved k t → x ≡ moves o f → x ≡ false → w ≡ operand_sort o → IsEquated {A = Unit {0}} k t w p (Ok tt) k₁ → IsChecked {A = Unit {0}} s c k₁ w (place_of a) a (Ok tt) k' → v ≡ result_sort o → IsLinked s c k z p t (tree.ghost_link g o a) (Ok v) k'
 joined_linked {s = s} {c = c} {k = k} {k₁ = k₁} {k' = k'} {z = z} {p = p} {g = g} {t = t} {o = o} {a = a} y h f x l w j i v =
     let e = j.answers.long in let le = i.answers.0 in
     subst (λ (u : Sort). IsLinked s c k z p t (tree.ghost_link g o a) (Ok u) k') (sym v)
-    (record { answers = (omega (arith, e, le), result_is (length k') o, has.joined (sym y ∙ h) (ap (moves s o) (sym f) ∙ sym x ∙ l) (subst (λ (u : Sort). Equates k t u k₁) w j.answers) (subst (λ (u : Sort). has.Passes s c k₁ u (place_of a) a k') w i.answers.1)) })
+    (record { answers = (omega (arith, e, le), result_is (length k') o, has.joined (sym y ∙ h) (ap (moves o) (sym f) ∙ sym x ∙ l) (subst (λ (u : Sort). Equates k t u k₁) w j.answers) (subst (λ (u : Sort). has.Passes s c k₁ u (place_of a) a k') w i.answers.1)) })
 
 -- ---- operators and operands one after the other
 pub links_done : {s : Scope} {c : Context} {k : Known} {z : Bool} {p : Place} {t : Sort} → IsBelow (length k) t → AreLinked s c k z p t no_ghost_link (Ok t) k

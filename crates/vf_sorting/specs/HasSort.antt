@@ -43,8 +43,8 @@ mutual
   -- an operator and its operand have a sort behind a left operand, that is or is not a `0`, stands at a place and has a sort
   pub data LinkHasSort (s : Scope) (c : Context) : Known → Bool → Place → Sort → GhostLinkTree → Sort → Known → Type 0 where
     compared : {k k' : Known} {z : Bool} {p q : Place} {t u : Sort} {o : BinaryOperator} {a : GhostExprTree} → is_equality o ≡ true → Meets s c k z t a u k' → LinkHasSort s c k z p t (tree.ghost_link q o a) bool_sort k'
-    moved : {k k' : Known} {z : Bool} {p q : Place} {t : Sort} {o : BinaryOperator} {a : GhostExprTree} → is_equality o ≡ false → moves s o (resolved k t) ≡ true → Passes s c k int_sort (place_of a) a k' → LinkHasSort s c k z p t (tree.ghost_link q o a) pointer_sort k'
-    joined : {k k₁ k' : Known} {z : Bool} {p q : Place} {t : Sort} {o : BinaryOperator} {a : GhostExprTree} → is_equality o ≡ false → moves s o (resolved k t) ≡ false → Equates k t (operand_sort o) k₁ → Passes s c k₁ (operand_sort o) (place_of a) a k' → LinkHasSort s c k z p t (tree.ghost_link q o a) (result_sort o) k'
+    moved : {k k' : Known} {z : Bool} {p q : Place} {t : Sort} {o : BinaryOperator} {a : GhostExprTree} → is_equality o ≡ false → moves o (resolved k t) ≡ true → Passes s c k int_sort (place_of a) a k' → LinkHasSort s c k z p t (tree.ghost_link q o a) pointer_sort k'
+    joined : {k k₁ k' : Known} {z : Bool} {p q : Place} {t : Sort} {o : BinaryOperator} {a : GhostExprTree} → is_equality o ≡ false → moves o (resolved k t) ≡ false → Equates k t (operand_sort o) k₁ → Passes s c k₁ (operand_sort o) (place_of a) a k' → LinkHasSort s c k z p t (tree.ghost_link q o a) (result_sort o) k'
 
   -- the same of operators and operands from left to right
   pub data LinksHaveSort (s : Scope) (c : Context) : Known → Bool → Place → Sort → GhostLinkTrees → Sort → Known → Type 0 where

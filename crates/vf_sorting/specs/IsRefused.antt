@@ -50,9 +50,9 @@ mutual
   -- an operator and its operand are refused behind a left operand, that is or is not a `0`, stands at a place and has a sort
   pub data LinkFails (s : Scope) (c : Context) : Known → Bool → Place → Sort → GhostLinkTree → Refusal → Type 0 where
     compared : {k : Known} {z : Bool} {p q : Place} {t : Sort} {o : BinaryOperator} {a : GhostExprTree} {r : Refusal} → is_equality o ≡ true → FailsToMeet s c k z t a r → LinkFails s c k z p t (tree.ghost_link q o a) r
-    moved : {k : Known} {z : Bool} {p q : Place} {t : Sort} {o : BinaryOperator} {a : GhostExprTree} {r : Refusal} → is_equality o ≡ false → moves s o (resolved k t) ≡ true → Fails s c k int_sort (place_of a) a r → LinkFails s c k z p t (tree.ghost_link q o a) r
-    left : {k : Known} {z : Bool} {p q : Place} {t : Sort} {o : BinaryOperator} {a : GhostExprTree} → is_equality o ≡ false → moves s o (resolved k t) ≡ false → AreApart k t (operand_sort o) → LinkFails s c k z p t (tree.ghost_link q o a) (refused rules.Typing p)
-    right : {k k₁ : Known} {z : Bool} {p q : Place} {t : Sort} {o : BinaryOperator} {a : GhostExprTree} {r : Refusal} → is_equality o ≡ false → moves s o (resolved k t) ≡ false → Equates k t (operand_sort o) k₁ → Fails s c k₁ (operand_sort o) (place_of a) a r → LinkFails s c k z p t (tree.ghost_link q o a) r
+    moved : {k : Known} {z : Bool} {p q : Place} {t : Sort} {o : BinaryOperator} {a : GhostExprTree} {r : Refusal} → is_equality o ≡ false → moves o (resolved k t) ≡ true → Fails s c k int_sort (place_of a) a r → LinkFails s c k z p t (tree.ghost_link q o a) r
+    left : {k : Known} {z : Bool} {p q : Place} {t : Sort} {o : BinaryOperator} {a : GhostExprTree} → is_equality o ≡ false → moves o (resolved k t) ≡ false → AreApart k t (operand_sort o) → LinkFails s c k z p t (tree.ghost_link q o a) (refused rules.Typing p)
+    right : {k k₁ : Known} {z : Bool} {p q : Place} {t : Sort} {o : BinaryOperator} {a : GhostExprTree} {r : Refusal} → is_equality o ≡ false → moves o (resolved k t) ≡ false → Equates k t (operand_sort o) k₁ → Fails s c k₁ (operand_sort o) (place_of a) a r → LinkFails s c k z p t (tree.ghost_link q o a) r
 
   -- the same of operators and operands from left to right
   pub data LinksFail (s : Scope) (c : Context) : Known → Bool → Place → Sort → GhostLinkTrees → Refusal → Type 0 where

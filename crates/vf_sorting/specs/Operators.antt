@@ -2,7 +2,6 @@
 use Rattle.std.specs.Prelude.{ℕ, Bool, true, false, ◌&&◌, ◌+◌, nat_eq}
 use Rattle.vf_base.specs.declared.place.Place.{Place}
 use Rattle.vf_sorts.specs.Sorts.{Sort}
-use Rattle.vf_declared.specs.declared.scope.Scope.{Scope}
 use Rattle.vf_syntax.specs.declared.operator.BinaryOperator.{BinaryOperator}
 use Rattle.vf_syntax.specs.declared.operator.BinaryOperator.TheVariants as operators
 use Rattle.vf_syntax.specs.declared.operator.UnaryOperator.{UnaryOperator}
@@ -60,9 +59,9 @@ abbrev pub is_plus : BinaryOperator → Bool
 is_plus operators.Plus = true
 is_plus o = false
 
--- an operator moves a left operand of a sort by its right operand: in arrays a `+` moves pointers
-abbrev pub moves : Scope → BinaryOperator → Sort → Bool
-moves s o t = s.has_arrays && (is_plus o && is_pointer t)
+-- an operator moves a left operand of a sort by its right operand: a `+` moves pointers
+abbrev pub moves : BinaryOperator → Sort → Bool
+moves o t = is_plus o && is_pointer t
 
 -- the sort of both operands of an operator other than `==` and `!=`
 abbrev pub operand_sort : BinaryOperator → Sort

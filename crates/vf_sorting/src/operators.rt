@@ -5,7 +5,6 @@ ghost use Rattle.vf_sorting.specs.Operators.{is_equality, is_plus, moves, operan
 
 use crate::kinds::{bool_sort, int_sort, is_pointer};
 use std::alloc::Global;
-use vf_declared::scope::Scope;
 use vf_sorts::Sort;
 use vf_syntax::operator::{BinaryOperator, UnaryOperator};
 
@@ -40,10 +39,10 @@ fn is_plus(operator: BinaryOperator) -> bool
 }
 
 /// Whether an operator moves a left operand of a sort by its right operand.
-pub fn moves(scope: &Scope, operator: BinaryOperator, left: &Sort) -> bool
-    ensures { result ≡ moves scope.now operator left.now }
+pub fn moves(operator: BinaryOperator, left: &Sort) -> bool
+    ensures { result ≡ moves operator left.now }
 {
-    scope.has_arrays && is_plus(operator) && is_pointer(left)
+    is_plus(operator) && is_pointer(left)
 }
 
 /// The sort of both operands of an operator other than `==` and `!=`.

@@ -266,7 +266,7 @@ fn linked(
         return Ok(bool_sort(alloc));
     }
     let resolved = unknowns.resolve(&left.sort)?;
-    if moves(scope, link.operator, &resolved) {
+    if moves(link.operator, &resolved) {
         let distance = int_sort(alloc);
         checked(alloc, scope, context, unknowns, &distance, &link.operand)?;
         return Ok(pointer_sort(alloc));
