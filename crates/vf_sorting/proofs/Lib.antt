@@ -4,3 +4,4 @@ pub mod Steps
 pub mod Wholes
 pub mod Checks
 pub mod Lists
+pub mod Spelled

@@ -6,3 +6,4 @@ pub mod Operators
 pub mod HasSort
 pub mod IsRefused
 pub mod Answers
+pub mod Spelling

@@ -17,7 +17,9 @@ mod refusal;
 mod scheme;
 mod sorts;
 mod words;
+mod written;
 
 pub use context::Context;
 pub use scheme::Scheme;
 pub use sorts::{checked, sorted};
+pub use written::written_sort;

@@ -53,7 +53,7 @@ fn at_sort(alloc: Global, sort: Sort) -> Scheme
 }
 
 /// How many type parameters a datatype has.
-fn parameter_count(scope: &Scope, datatype: usize) -> usize
+pub fn parameter_count(scope: &Scope, datatype: usize) -> usize
     ensures { result ≡ schemes.count_in (datatype_of scope.now datatype) }
 {
     match scope.datatype(datatype) {
@@ -201,7 +201,7 @@ fn applied_ghost(
 }
 
 /// Whether a name of file level is that of a function type.
-fn is_function_type(meaning: Option<Meaning>) -> bool
+pub fn is_function_type(meaning: Option<Meaning>) -> bool
     ensures { result ≡ schemes.is_function_type meaning }
 {
     match meaning {
