@@ -1,12 +1,11 @@
 //! Questions over terms, by rows of literals.
 
-use crate::{MOST_TERMS, all_terms, are_plain, close, place, refuted};
+use crate::{MOST_TERMS, are_plain, refuted};
 use std::alloc::Global;
 use std::test::Fail;
 use vf_base::{Memory, Text};
 use vf_core::Operator;
 use vf_formula::{Head, Kind, Literal, Name, Term};
-use vf_ground::Closed;
 
 /// An integer symbol.
 fn integer(alloc: Global, number: u64) -> Term {
@@ -197,49 +196,5 @@ fn terms_are_counted(rt: HostRuntime) -> Result<(), Fail> {
             None => assert!(rt; !within),
         }
     }
-    Ok(())
-}
-
-/// Whether two terms are equal by literals, none where these are not plain or have a conflict, or a term
-/// is not among theirs.
-fn are_equal(
-    alloc: Global,
-    literals: &[Literal],
-    a: &Term,
-    b: &Term,
-) -> Result<Option<bool>, Memory> {
-    if !are_plain(literals) {
-        return Ok(None);
-    }
-    let zero = Term::of_number(alloc, 0);
-    let terms = match all_terms(alloc, literals, &zero, MOST_TERMS)? {
-        Some(terms) => terms,
-        None => return Ok(None),
-    };
-    match close(alloc, &terms, literals)? {
-        Closed::Conflict => Ok(None),
-        Closed::Classes(classes) => {
-            let left = place(&terms, a);
-            let right = place(&terms, b);
-            if left >= classes.size() as usize || right >= classes.size() as usize {
-                return Ok(None);
-            }
-            Ok(Some(classes.same(left as u32, right as u32)))
-        }
-    }
-}
-
-#[test]
-fn classes_are_told(rt: HostRuntime) -> Result<(), Fail> {
-    let alloc = rt.alloc();
-    let x = other(alloc, 0);
-    let y = other(alloc, 1);
-    let mut literals = Vec::new(alloc);
-    assert_eq!(rt; are_equal(alloc, &literals, &x, &y)?, None);
-    literals.push(Literal::NotEqual(length(alloc, other(alloc, 0))?, Term::of_number(alloc, 1)))?;
-    literals.push(Literal::Equal(other(alloc, 1), other(alloc, 2)))?;
-    assert_eq!(rt; are_equal(alloc, &literals, &x, &y)?, Some(false));
-    literals.push(Literal::Equal(other(alloc, 2), other(alloc, 0)))?;
-    assert_eq!(rt; are_equal(alloc, &literals, &x, &y)?, Some(true));
     Ok(())
 }
