@@ -76,10 +76,10 @@ fn lack_at(classes: &Classes, bounds: &Bounds, x: u32, y: u32) -> Lack
 
 /// Two terms at which something is lacking.
 #[derive(Clone, Copy)]
-struct Task {
-    left: u32,
-    right: u32,
-    lack: Lack,
+pub struct Task {
+    pub left: u32,
+    pub right: u32,
+    pub lack: Lack,
 }
 
 /// The first term beside which another one lacks something.
@@ -108,7 +108,7 @@ fn find_beside(classes: &Classes, bounds: &Bounds, x: u32) -> Option<Task>
 }
 
 /// The first two terms at which something is lacking.
-fn find(classes: &Classes, bounds: &Bounds) -> Option<Task>
+pub fn find(classes: &Classes, bounds: &Bounds) -> Option<Task>
     requires fine { HasNegativeCycle bounds.now.edges → ⊥ }
     requires size { bounds.now.size ≡ length classes.now.nodes }
     ensures { MatchOption result (AllAgree classes.now.nodes classes.now.merged bounds.now.edges) (λ t. IsLacking classes.now.nodes classes.now.merged bounds.now.edges t.left t.right t.lack) }

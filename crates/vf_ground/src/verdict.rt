@@ -17,7 +17,7 @@ use vf_refute::Fact;
 use vf_table::{Node, have_clashing_heads};
 
 /// Whether two terms are in one class and their heads clash.
-fn is_clash(classes: &Classes, x: u32, y: u32) -> bool
+pub fn is_clash(classes: &Classes, x: u32, y: u32) -> bool
     requires left { x < length classes.now.nodes }
     requires right { y < length classes.now.nodes }
     ensures { IsTrue result ↔ Clash classes.now.nodes classes.now.merged x y }
@@ -51,7 +51,7 @@ fn clashes(classes: &Classes) -> bool
 }
 
 /// Whether classes and bounds contradict a fact.
-fn contradicts(classes: &Classes, bounds: &Bounds, fact: Fact) -> bool
+pub fn contradicts(classes: &Classes, bounds: &Bounds, fact: Fact) -> bool
     requires conflict { HasNegativeCycle bounds.now.edges → ⊥ }
     requires size { bounds.now.size ≡ length classes.now.nodes }
     requires fine { IsFine classes.now.nodes fact }

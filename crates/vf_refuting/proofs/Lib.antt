@@ -1,0 +1,4 @@
+pub mod Copied
+pub mod Running
+pub mod Deriving
+pub mod Ending

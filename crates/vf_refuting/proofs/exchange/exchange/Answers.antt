@@ -1,0 +1,5 @@
+use Rattle.vf_refuting.proofs.Running.{goes_more}
+use Rattle.vf_refuting.proofs.exchange.exchange.Goals as goal
+
+pub returns-then-conflict-2-clause-goes : goal.returns-then-conflict-2-clause-goes
+returns-then-conflict-2-clause-goes c = goes_more c.loop-task.invariant.goes c.in_ok-supply.ensures.goes
