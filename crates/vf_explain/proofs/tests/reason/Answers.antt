@@ -13,12 +13,14 @@ fact-requires c =
     let small = c.if-not-is_small.ensures.0 refl in
     let l = small.low in
     let h = small.high in
-    record { gives = (
-      AreWithin found.field-0-0 found.field-0-1 found.most,
-      record {
-        fact = AtMost found.field-0-0 found.field-0-1 found.most;
-        found = ap (λ (fs : List Fact). slice_get fs c.args.i) (sym c.facts.ensures) ∙ slice_get-get_or c.facts.result.now c.args.i found.field-0.now look.3.0 ∙ ap Some (sym look.1 ∙ found.field-0-is);
-        gives = refl;
-      },
-      record { low = omega (arith, ints); high = omega (arith, ints) },
-    ) }
+    record {
+      gives = (
+        AreWithin found.field-0-0 found.field-0-1 found.most,
+        record {
+          fact = AtMost found.field-0-0 found.field-0-1 found.most;
+          found = ap (λ (fs : List Fact). slice_get fs c.args.i) (sym c.facts.ensures) ∙ slice_get-get_or c.facts.result.now c.args.i found.field-0.now look.3.0 ∙ ap Some (sym look.1 ∙ found.field-0-is);
+          gives = refl;
+        },
+        record { low = omega (arith, ints); high = omega (arith, ints) },
+      );
+    }
