@@ -1,10 +1,10 @@
 -- How many terms a question has does not depend on the order of its terms.
-use Rattle.std.proofs.Common.{◌≡◌, ℕ, ◌+◌, ◌≤◌, ◌<◌, ◌⊎◌, inl, inr, List, [], ◌∷◌, ◌++◌, length, refl, sym, ap, ◌∙◌, subst, arith}
+use Rattle.std.proofs.Common.{◌≡◌, ◌+◌, ◌≤◌, ◌<◌, ◌⊎◌, inl, inr, List, [], ◌∷◌, ◌++◌, length, refl, sym, ap, ◌∙◌, subst, arith}
 use Rattle.std.proofs.Common.{length-append}
 use Rattle.std.proofs.lemmas.List.{get_or_push}
 use Rattle.std.proofs.lemmas.Int.{ints}
 use Rattle.std.specs.Prelude.{pos, neg_ℤ, ◌-ℤ◌, Option, Some, None, Bool, true, false, IsTrue, ◌↔◌, MatchOption, All}
-use Rattle.vf_closure.specs.Terms.{Term, IsWithin}
+use Rattle.vf_closure.specs.Terms.{Term}
 use Rattle.vf_closure.specs.Closure.{Unfoldings, Conflict, IsRefuted}
 use Rattle.vf_closure.specs.Literals.{Literal, Equal, NotEqual, AtMost, Difference, NotDifference, False, denied, compares}
 use Rattle.vf_question.specs.declared.numbering.TheConstants.{MOST_TERMS}

@@ -1,4 +1,4 @@
-use Rattle.std.proofs.Common.{◌≡◌, ◌∙◌, ap, map}
+use Rattle.std.proofs.Common.{◌∙◌, ap, map}
 use Rattle.vf_formula.specs.Literals.{shown_literal}
 use Rattle.vf_answer.proofs.Counting.{deniable, terms_answered, proved_answered, unknown_answered}
 use Rattle.vf_answer.proofs.answer.answered.Goals as goal
