@@ -14,31 +14,46 @@ use Rattle.vf_declared.specs.declared.locals.Local.TheVariants as locals
 use Rattle.vf_syntax.specs.declared.item.Item.{Item}
 use Rattle.vf_syntax.specs.declared.item.Typed.{Typed}
 use Rattle.vf_walk.specs.Meanings.{Meanings}
-use Rattle.vf_walk.specs.Items.{field_walked, fields_behind, first_renamed, parameters_walked, real_types, walked_item, walked_items}
-use Rattle.vf_walk.specs.Statements.{variable, walked_stmt, walked_stmts}
-use Rattle.vf_walk.specs.Walking.{Walked, Gives, behind}
+use Rattle.vf_walk.specs.Items.{field_walked, fields_behind, first_renamed, parameters_walked, real_types, WalksItem, WalksItems}
+use Rattle.vf_walk.specs.Statements.{variable, WalksStmt, WalksStmts}
+use Rattle.vf_walk.specs.Walking.{Walked, behind, Follows, Gives, Then}
+use Rattle.vf_walk.specs.Walking as walking
 use Rattle.vf_walk.proofs.Lists.{left_at, left_none, left_end}
-use Rattle.vf_walk.proofs.Steps.{stop}
+use Rattle.vf_walk.proofs.Steps.{end_here, ended, stays, stop}
 
--- what the statements that are left come to, where one stands first
-stmts_at : (m : Meanings) (t : CType) (xs : List StmtTree) (i : ℕ) (x : StmtTree) (s : Scope) → slice_get xs i ≡ Some x → walked_stmts m t (stmt_list (drop i xs)) s ≡ behind (walked_stmts m t (stmt_list (drop (i + 1) xs))) (walked_stmt m t x s)
-stmts_at m t xs i x s h = ap (λ ys. walked_stmts m t (stmt_list ys) s) (left_at xs i x h)
+-- whatever the walk over the rest may come to, the whole walk may come to
+pub record Leads (P Q : Walked → Type 0) : Type 0 where
+  pub leads : (w : Walked) → P w → Q w
+
+-- at the start the rest is the whole
+pub leads_here : (P : Walked → Type 0) → Leads P P
+leads_here P = record { leads = λ w h. h }
+
+-- a walk that follows the rest follows the whole
+follow : {P Q : Walked → Type 0} {r : Result (Unit {0}) RuleFault} {s : Scope} → Leads P Q → Follows P r s → Follows Q r s
+follow l (walking.to_end h) = walking.to_end (l.leads _ h)
+follow l (walking.to_refusal h) = walking.to_refusal (l.leads _ h)
+follow l walking.out_of_memory = walking.out_of_memory
+
+-- a first part is done
+part_done : {P W : Walked → Type 0} {Q : Scope → Walked → Type 0} {s : Scope} → P (Ok s) → Leads (Then P Q) W → Leads (Q s) W
+part_done h l = record { leads = λ w k. l.leads w (walking.goes h k) }
 
 -- one more statement
-pub stmts_more : (m : Meanings) (t : CType) (xs : List StmtTree) (i : ℕ) (x : StmtTree) (s u : Scope) (whole : Walked) → slice_get xs i ≡ Some x → walked_stmt m t x s ≡ Ok u → walked_stmts m t (stmt_list (drop i xs)) s ≡ whole → walked_stmts m t (stmt_list (drop (i + 1) xs)) u ≡ whole
-stmts_more m t xs i x s u whole h step kept = sym (stmts_at m t xs i x s h ∙ ap (behind (walked_stmts m t (stmt_list (drop (i + 1) xs)))) step) ∙ kept
+pub stmts_more : (m : Meanings) (t : CType) (xs : List StmtTree) (i : ℕ) (x : StmtTree) (s u : Scope) (W : Walked → Type 0) → slice_get xs i ≡ Some x → Follows (WalksStmt m t x s) (Ok tt) u → Leads (WalksStmts m t (stmt_list (drop i xs)) s) W → Leads (WalksStmts m t (stmt_list (drop (i + 1) xs)) u) W
+stmts_more m t xs i x s u W h step l = part_done (ended step) (subst (λ (ys : List StmtTree). Leads (WalksStmts m t (stmt_list ys) s) W) (left_at xs i x h) l)
 
 -- a statement is refused
-pub stmts_stop : (m : Meanings) (t : CType) (xs : List StmtTree) (i : ℕ) (x : StmtTree) (s u v : Scope) (e : RuleFault) (whole : Walked) → slice_get xs i ≡ Some x → Gives (Err e) u (walked_stmt m t x s) → walked_stmts m t (stmt_list (drop i xs)) s ≡ whole → Gives (Err e) v whole
-stmts_stop m t xs i x s u v e whole h step kept = subst (Gives (Err e) v) (sym (stmts_at m t xs i x s h) ∙ kept) (stop (walked_stmts m t (stmt_list (drop (i + 1) xs))) (walked_stmt m t x s) e u v step)
+pub stmts_stop : (m : Meanings) (t : CType) (xs : List StmtTree) (i : ℕ) (x : StmtTree) (s u v : Scope) (e : RuleFault) (W : Walked → Type 0) → slice_get xs i ≡ Some x → Follows (WalksStmt m t x s) (Err e) u → Leads (WalksStmts m t (stmt_list (drop i xs)) s) W → Follows W (Err e) v
+stmts_stop m t xs i x s u v e W h step l = follow (subst (λ (ys : List StmtTree). Leads (WalksStmts m t (stmt_list ys) s) W) (left_at xs i x h) l) (end_here step refl)
 
 -- no statement stands at an index
-pub stmts_none : (m : Meanings) (t : CType) (xs : List StmtTree) (i : ℕ) (s : Scope) → slice_get xs i ≡ None → walked_stmts m t (stmt_list (drop i xs)) s ≡ Ok s
-stmts_none m t xs i s h = ap (λ ys. walked_stmts m t (stmt_list ys) s) (left_none xs i h)
+pub stmts_none : (m : Meanings) (t : CType) (xs : List StmtTree) (i : ℕ) (s : Scope) (W : Walked → Type 0) → slice_get xs i ≡ None → Leads (WalksStmts m t (stmt_list (drop i xs)) s) W → Follows W (Ok tt) s
+stmts_none m t xs i s W h l = follow (subst (λ (ys : List StmtTree). Leads (WalksStmts m t (stmt_list ys) s) W) (left_none xs i h) l) (stays s)
 
 -- the list is done
-pub stmts_end : (m : Meanings) (t : CType) (xs : List StmtTree) (i : ℕ) (s : Scope) → length xs ≤ i → walked_stmts m t (stmt_list (drop i xs)) s ≡ Ok s
-stmts_end m t xs i s h = ap (λ ys. walked_stmts m t (stmt_list ys) s) (left_end xs i h)
+pub stmts_end : (m : Meanings) (t : CType) (xs : List StmtTree) (i : ℕ) (s : Scope) (W : Walked → Type 0) → length xs ≤ i → Leads (WalksStmts m t (stmt_list (drop i xs)) s) W → Follows W (Ok tt) s
+stmts_end m t xs i s W h l = follow (subst (λ (ys : List StmtTree). Leads (WalksStmts m t (stmt_list ys) s) W) (left_end xs i h) l) (stays s)
 
 -- what the fields that are left come to, where one stands first
 fields_at : (s : Scope) (xs : List Typed) (i : ℕ) (x : Typed) (fs : Fields) → slice_get xs i ≡ Some x → fields_behind s (drop i xs) fs ≡ behind (fields_behind s (drop (i + 1) xs)) (field_walked s x fs)
@@ -126,22 +141,18 @@ renamed_nameless ns ps i h = ap (λ xs. first_renamed xs (drop i ps)) (left_none
 pub renamed_end : (ns : List (List ℕ)) (ps : List Typed) (i : ℕ) → length ps ≤ i → first_renamed (drop i ns) (drop i ps) ≡ None
 renamed_end ns ps i h = ap (λ ys. first_renamed (drop i ns) ys) (left_end ps i h) ∙ renamed_nothing (drop i ns)
 
--- what the items that are left come to, where one stands first
-items_at : (m : Meanings) (xs : List Item) (i : ℕ) (x : Item) (s : Scope) → slice_get xs i ≡ Some x → walked_items m (drop i xs) s ≡ behind (walked_items m (drop (i + 1) xs)) (walked_item m x s)
-items_at m xs i x s h = ap (λ ys. walked_items m ys s) (left_at xs i x h)
-
 -- one more item
-pub items_more : (m : Meanings) (xs : List Item) (i : ℕ) (x : Item) (s u : Scope) (whole : Walked) → slice_get xs i ≡ Some x → walked_item m x s ≡ Ok u → walked_items m (drop i xs) s ≡ whole → walked_items m (drop (i + 1) xs) u ≡ whole
-items_more m xs i x s u whole h step kept = sym (items_at m xs i x s h ∙ ap (behind (walked_items m (drop (i + 1) xs))) step) ∙ kept
+pub items_more : (m : Meanings) (xs : List Item) (i : ℕ) (x : Item) (s u : Scope) (W : Walked → Type 0) → slice_get xs i ≡ Some x → Follows (WalksItem m x s) (Ok tt) u → Leads (WalksItems m (drop i xs) s) W → Leads (WalksItems m (drop (i + 1) xs) u) W
+items_more m xs i x s u W h step l = part_done (ended step) (subst (λ (ys : List Item). Leads (WalksItems m ys s) W) (left_at xs i x h) l)
 
 -- an item is refused
-pub items_stop : (m : Meanings) (xs : List Item) (i : ℕ) (x : Item) (s u v : Scope) (e : RuleFault) (whole : Walked) → slice_get xs i ≡ Some x → Gives (Err e) u (walked_item m x s) → walked_items m (drop i xs) s ≡ whole → Gives (Err e) v whole
-items_stop m xs i x s u v e whole h step kept = subst (Gives (Err e) v) (sym (items_at m xs i x s h) ∙ kept) (stop (walked_items m (drop (i + 1) xs)) (walked_item m x s) e u v step)
+pub items_stop : (m : Meanings) (xs : List Item) (i : ℕ) (x : Item) (s u v : Scope) (e : RuleFault) (W : Walked → Type 0) → slice_get xs i ≡ Some x → Follows (WalksItem m x s) (Err e) u → Leads (WalksItems m (drop i xs) s) W → Follows W (Err e) v
+items_stop m xs i x s u v e W h step l = follow (subst (λ (ys : List Item). Leads (WalksItems m ys s) W) (left_at xs i x h) l) (end_here step refl)
 
 -- no item stands at an index
-pub items_none : (m : Meanings) (xs : List Item) (i : ℕ) (s : Scope) → slice_get xs i ≡ None → walked_items m (drop i xs) s ≡ Ok s
-items_none m xs i s h = ap (λ ys. walked_items m ys s) (left_none xs i h)
+pub items_none : (m : Meanings) (xs : List Item) (i : ℕ) (s : Scope) (W : Walked → Type 0) → slice_get xs i ≡ None → Leads (WalksItems m (drop i xs) s) W → Follows W (Ok tt) s
+items_none m xs i s W h l = follow (subst (λ (ys : List Item). Leads (WalksItems m ys s) W) (left_none xs i h) l) (stays s)
 
 -- the list is done
-pub items_end : (m : Meanings) (xs : List Item) (i : ℕ) (s : Scope) → length xs ≤ i → walked_items m (drop i xs) s ≡ Ok s
-items_end m xs i s h = ap (λ ys. walked_items m ys s) (left_end xs i h)
+pub items_end : (m : Meanings) (xs : List Item) (i : ℕ) (s : Scope) (W : Walked → Type 0) → length xs ≤ i → Leads (WalksItems m (drop i xs) s) W → Follows W (Ok tt) s
+items_end m xs i s W h l = follow (subst (λ (ys : List Item). Leads (WalksItems m ys s) W) (left_end xs i h) l) (stays s)

@@ -35,8 +35,8 @@ use Rattle.vf_walk.specs.declared.annotations.Owner.{Owner}
 use Rattle.vf_walk.specs.declared.function.Head.{Head}
 use Rattle.vf_walk.specs.Meanings.{Meanings}
 use Rattle.vf_walk.specs.Names.{earlier, has_types, is_new, may_be_stated}
-use Rattle.vf_walk.specs.Statements.{variable, walked_stmts}
-use Rattle.vf_walk.specs.Walking.{Walked, behind, optional}
+use Rattle.vf_walk.specs.Statements.{variable, WalksStmts}
+use Rattle.vf_walk.specs.Walking.{Walked, behind, Only, Optional, Then}
 
 -- no locals
 abbrev pub no_locals : Locals
@@ -166,13 +166,13 @@ owner g t of_type = record { file = g.name.place.file; given = t; is_type = of_t
 abbrev pub kept : ℕ → Scope → Walked
 kept k s = Ok (without_locals (with_prototype s k s.locals))
 
--- a prototype of the function with a number
-abbrev pub prototype_walked : Meanings → WrittenSignature → Option Contract → Head → Scope → Walked
-prototype_walked m g c h s = behind (kept (function_number s h.earlier)) (behind (optional (m.contract (owner g h.given false)) c) (signature_walked g h s))
+-- a prototype, by what it gives and the function that it is of
+abbrev pub WalksPrototypeOf : Meanings → WrittenSignature → Option Contract → Scope → Head → Walked → Type 0
+WalksPrototypeOf m g c s h = Then (Then (Only (signature_walked g h s)) (Optional (m.contract (owner g h.given false)) c)) (λ t. Only (kept (function_number s h.earlier) t))
 
 -- a prototype
-abbrev pub prototype : Meanings → WrittenSignature → Option Contract → Scope → Walked
-prototype m g c s = behind (λ h. prototype_walked m g c h s) (head s g false)
+abbrev pub WalksPrototype : Meanings → WrittenSignature → Option Contract → Scope → Walked → Type 0
+WalksPrototype m g c s = Then (Only (head s g false)) (WalksPrototypeOf m g c s)
 
 -- the first of some parameters whose name is not the one that it has in the prototype
 abbrev pub first_renamed : List (List ℕ) → List Typed → Option Place
@@ -195,13 +195,18 @@ prototype_in None = None
 prototype_in (Some x) = x.prototype
 
 -- the contract of the definition of the function with a number, or that of its prototype
-abbrev pub contract_walked : Meanings → WrittenSignature → CType → ℕ → Option Contract → Scope → Walked
-contract_walked m g t k None s = taken_from (listed g.parameters) (prototype_in (slice_get s.sides k)) s
-contract_walked m g t k (Some c) s = m.contract (owner g t false) c s
+abbrev pub WalksContract : Meanings → WrittenSignature → CType → ℕ → Option Contract → Scope → Walked → Type 0
+WalksContract m g t k None s = Only (taken_from (listed g.parameters) (prototype_in (slice_get s.sides k)) s)
+WalksContract m g t k (Some c) s = m.contract (owner g t false) c s
+
+-- the body of a function that may have one or not
+abbrev pub WalksBodyIf : Bool → Meanings → CType → Body → Scope → Walked → Type 0
+WalksBodyIf true m t b s = WalksStmts m t (stmt_list b.statements) s
+WalksBodyIf false m t b s = Only (Err (refused rules.Unsupported b.place))
 
 -- the body of a function: none stands in a header
-abbrev pub body_walked : Meanings → Name → CType → Body → Scope → Walked
-body_walked m n t b s = if nat_eq n.place.file s.file then walked_stmts m t (stmt_list b.statements) s else Err (refused rules.Unsupported b.place)
+abbrev pub WalksBody : Meanings → Name → CType → Body → Scope → Walked → Type 0
+WalksBody m n t b s = WalksBodyIf (nat_eq n.place.file s.file) m t b s
 
 -- the function with a number has a body
 abbrev pub defined : ℕ → Scope → Walked
@@ -215,13 +220,13 @@ defined_walked g h s = behind (defined (function_number s h.earlier)) (signature
 abbrev pub cleared : Scope → Walked
 cleared s = Ok (without_locals s)
 
--- a definition of the function with a number
-abbrev pub definition_walked : Meanings → WrittenSignature → Option Contract → Body → Head → Scope → Walked
-definition_walked m g c b h s = behind cleared (behind (body_walked m g.name h.given b) (behind (contract_walked m g h.given (function_number s h.earlier) c) (defined_walked g h s)))
+-- a function with its body, by what it gives and the function that it is of
+abbrev pub WalksDefinitionOf : Meanings → WrittenSignature → Option Contract → Body → Scope → Head → Walked → Type 0
+WalksDefinitionOf m g c b s h = Then (Then (Then (Only (defined_walked g h s)) (WalksContract m g h.given (function_number s h.earlier) c)) (WalksBody m g.name h.given b)) (λ t. Only (cleared t))
 
 -- a function with its body
-abbrev pub definition : Meanings → WrittenSignature → Option Contract → Body → Scope → Walked
-definition m g c b s = behind (λ h. definition_walked m g c b h s) (head s g true)
+abbrev pub WalksDefinition : Meanings → WrittenSignature → Option Contract → Body → Scope → Walked → Type 0
+WalksDefinition m g c b s = Then (Only (head s g true)) (WalksDefinitionOf m g c b s)
 
 -- a function type is declared by its name, so that its own parameters may have it
 abbrev pub type_named : Name → Scope → Walked
@@ -236,23 +241,23 @@ abbrev pub type_declared : WrittenSignature → CType → Scope → Walked
 type_declared g t s = behind (type_signed t) (behind (parameters_walked (listed g.parameters)) (type_named g.name s))
 
 -- a function type that gives a type
-abbrev pub type_walked : Meanings → WrittenSignature → Option Contract → CType → Scope → Walked
-type_walked m g c t s = behind cleared (behind (optional (m.contract (owner g t true)) c) (type_declared g t s))
+abbrev pub WalksTypeOf : Meanings → WrittenSignature → Option Contract → Scope → CType → Walked → Type 0
+WalksTypeOf m g c s t = Then (Then (Only (type_declared g t s)) (Optional (m.contract (owner g t true)) c)) (λ u. Only (cleared u))
 
 -- a function type
-abbrev pub function_type : Meanings → WrittenSignature → Option Contract → Scope → Walked
-function_type m g c s = behind (λ t. type_walked m g c t s) (result_type s g.«result»)
+abbrev pub WalksType : Meanings → WrittenSignature → Option Contract → Scope → Walked → Type 0
+WalksType m g c s = Then (Only (result_type s g.«result»)) (WalksTypeOf m g c s)
 
--- what is declared behind an item
-abbrev pub walked_item : Meanings → Item → Scope → Walked
-walked_item m (items.Opaque p n) s = struct_ n true s
-walked_item m (items.Struct p n xs) s = struct_walked n xs s
-walked_item m (items.FunctionType p g c) s = function_type m g c s
-walked_item m (items.Prototype g k c) s = prototype m g c s
-walked_item m (items.Function g k c b) s = definition m g c b s
-walked_item m (items.Ghost g) s = m.item g s
+-- the walk over an item comes to what is declared behind it or to its refusal
+abbrev pub WalksItem : Meanings → Item → Scope → Walked → Type 0
+WalksItem m (items.Opaque p n) s = Only (struct_ n true s)
+WalksItem m (items.Struct p n xs) s = Only (struct_walked n xs s)
+WalksItem m (items.FunctionType p g c) s = WalksType m g c s
+WalksItem m (items.Prototype g k c) s = WalksPrototype m g c s
+WalksItem m (items.Function g k c b) s = WalksDefinition m g c b s
+WalksItem m (items.Ghost g) s = m.item g s
 
--- what is declared behind some items
-abbrev pub walked_items : Meanings → List Item → Scope → Walked
-walked_items m [] s = Ok s
-walked_items m (x ∷ xs) s = behind (walked_items m xs) (walked_item m x s)
+-- the same of some items, one after another
+abbrev pub WalksItems : Meanings → List Item → Scope → Walked → Type 0
+WalksItems m [] s = Only (Ok s)
+WalksItems m (x ∷ xs) s = Then (WalksItem m x s) (WalksItems m xs)

@@ -25,7 +25,7 @@ use Rattle.vf_typing.specs.Simple.{refused_condition, refused_simple}
 use Rattle.vf_typing.specs.Typed.{typed}
 use Rattle.vf_typing.specs.Types.{is_void}
 use Rattle.vf_walk.specs.Meanings.{Meanings}
-use Rattle.vf_walk.specs.Walking.{Walked, behind, optional, unless}
+use Rattle.vf_walk.specs.Walking.{Walked, behind, Only, optional, Optional, Then, unless}
 
 -- one more local of C, unless a visible local has its name
 abbrev pub with_variable : Name → CType → Scope → Walked
@@ -79,37 +79,41 @@ abbrev pub left : ℕ → Scope → Scope
 left n s = record s { locals = first_locals s.locals n }
 
 -- a part whose locals are its own
-abbrev pub inner : (Scope → Walked) → Scope → Walked
-inner f s = behind (λ t. Ok (left (count s) t)) (f s)
+abbrev pub Inner : (Scope → Walked → Type 0) → Scope → Walked → Type 0
+Inner F s = Then (F s) (λ t. Only (Ok (left (count s) t)))
 
 -- behind a `for` the local that its first part declares is gone, before which so many stood; the names of the invariant stay
 abbrev pub without_first : Option First → ℕ → Scope → Walked
 without_first (Some (firsts.Declaration t n e)) k s = Ok (record s { locals = without_local s.locals k })
 without_first f k s = Ok s
 
+-- the first part of a `for`, its condition and its step
+abbrev pub for_parts : Option First → Option ExprTree → Option Simple → Scope → Walked
+for_parts f c x s = behind (optional simple x) (behind (optional condition c) (optional first_part f s))
+
 -- what stands in front of the body of a `for` at a place: its first part, its condition, its step and its invariant
-abbrev pub for_head : Meanings → Place → Option First → Option ExprTree → Option Simple → Option Invariant → Scope → Walked
-for_head m p f c x i s = behind (optional (m.invariant p.file) i) (behind (optional simple x) (behind (optional condition c) (optional first_part f s)))
+abbrev pub WalksForHead : Meanings → Place → Option First → Option ExprTree → Option Simple → Option Invariant → Scope → Walked → Type 0
+WalksForHead m p f c x i s = Then (Only (for_parts f c x s)) (Optional (m.invariant p.file) i)
 
 -- the body of a `for`, before whose first part so many locals stood
-abbrev pub for_body : Option First → ℕ → (Scope → Walked) → Scope → Walked
-for_body f k body s = behind (without_first f k) (inner body s)
+abbrev pub WalksForBody : Option First → ℕ → (Scope → Walked → Type 0) → Scope → Walked → Type 0
+WalksForBody f k F s = Then (Inner F s) (λ t. Only (without_first f k t))
 
 abbrev mutual
-  -- what is declared behind a statement in a function that gives a type
-  pub walked_stmt : Meanings → CType → StmtTree → Scope → Walked
-  walked_stmt m r (tree.declaration p t n e last) s = declaration t n e s
-  walked_stmt m r (tree.simple p x last) s = simple x s
-  walked_stmt m r (tree.if_ p c a) s = behind (inner (walked_stmt m r a)) (condition c s)
-  walked_stmt m r (tree.if_else p c a b) s = behind (inner (walked_stmt m r b)) (behind (inner (walked_stmt m r a)) (condition c s))
-  walked_stmt m r (tree.while_ p c i a) s = behind (inner (walked_stmt m r a)) (behind (optional (m.invariant p.file) i) (condition c s))
-  walked_stmt m r (tree.for_ p f c x i a) s = behind (for_body f (count s) (walked_stmt m r a)) (for_head m p f c x i s)
-  walked_stmt m r (tree.return_ p e last) s = unless (return_refusal s r p e) s
-  walked_stmt m r (tree.block p xs last) s = inner (walked_stmts m r xs) s
-  walked_stmt m r (tree.empty_ p) s = Ok s
-  walked_stmt m r (tree.ghost p c) s = m.command c s
+  -- the walk over a statement, in a function that gives a type, comes to what is declared behind it or to its refusal
+  pub WalksStmt : Meanings → CType → StmtTree → Scope → Walked → Type 0
+  WalksStmt m r (tree.declaration p t n e last) s = Only (declaration t n e s)
+  WalksStmt m r (tree.simple p x last) s = Only (simple x s)
+  WalksStmt m r (tree.if_ p c a) s = Then (Only (condition c s)) (Inner (WalksStmt m r a))
+  WalksStmt m r (tree.if_else p c a b) s = Then (Then (Only (condition c s)) (Inner (WalksStmt m r a))) (Inner (WalksStmt m r b))
+  WalksStmt m r (tree.while_ p c i a) s = Then (Then (Only (condition c s)) (Optional (m.invariant p.file) i)) (Inner (WalksStmt m r a))
+  WalksStmt m r (tree.for_ p f c x i a) s = Then (WalksForHead m p f c x i s) (WalksForBody f (count s) (WalksStmt m r a))
+  WalksStmt m r (tree.return_ p e last) s = Only (unless (return_refusal s r p e) s)
+  WalksStmt m r (tree.block p xs last) s = Inner (WalksStmts m r xs) s
+  WalksStmt m r (tree.empty_ p) s = Only (Ok s)
+  WalksStmt m r (tree.ghost p c) s = m.command c s
 
-  -- what is declared behind some statements
-  pub walked_stmts : Meanings → CType → StmtTrees → Scope → Walked
-  walked_stmts m r no_stmt s = Ok s
-  walked_stmts m r (more_stmt x xs) s = behind (walked_stmts m r xs) (walked_stmt m r x s)
+  -- the same of some statements, one after another
+  pub WalksStmts : Meanings → CType → StmtTrees → Scope → Walked → Type 0
+  WalksStmts m r no_stmt s = Only (Ok s)
+  WalksStmts m r (more_stmt x xs) s = Then (WalksStmt m r x s) (WalksStmts m r xs)

@@ -18,12 +18,13 @@ pub struct Owner {
 
 /// Walks over annotations inside C text.
 ///
-/// Each call leaves what its meaning leaves declared, or answers the refusal that this gives.
+/// Each call leaves something declared that its meaning relates to what was declared before, or answers a refusal that
+/// this relates to it.
 pub trait Annotations {
     ghost use Rattle.vf_walk.specs.Meanings.{Meanings};
-    ghost use Rattle.vf_walk.specs.Walking.{Gives};
+    ghost use Rattle.vf_walk.specs.Walking.{Follows};
 
-    // what annotations leave declared behind them
+    // what annotations may leave declared behind them
     ghost meanings: { Meanings };
 
     /// A contract, behind the parameters of its owner; what it leaves behind is visible in a body.
@@ -33,7 +34,7 @@ pub trait Annotations {
         owner: Owner,
         contract: &Contract,
     ) -> Result<(), RuleFault>
-        ensures { Gives result scope.new (meanings.contract owner contract.now scope.old) };
+        ensures { Follows (meanings.contract owner contract.now scope.old) result scope.new };
 
     /// An invariant of a loop that stands in a file.
     fn invariant(
@@ -42,15 +43,15 @@ pub trait Annotations {
         file: u32,
         invariant: &Invariant,
     ) -> Result<(), RuleFault>
-        ensures { Gives result scope.new (meanings.invariant file invariant.now scope.old) };
+        ensures { Follows (meanings.invariant file invariant.now scope.old) result scope.new };
 
     /// A ghost command.
     fn command(&self, scope: &mut Scope, command: &GhostCommand) -> Result<(), RuleFault>
-        ensures { Gives result scope.new (meanings.command command.now scope.old) };
+        ensures { Follows (meanings.command command.now scope.old) result scope.new };
 
     /// A ghost item.
     fn item(&self, scope: &mut Scope, item: &GhostItem) -> Result<(), RuleFault>
-        ensures { Gives result scope.new (meanings.item item.now scope.old) };
+        ensures { Follows (meanings.item item.now scope.old) result scope.new };
 }
 
 /// Annotations that declare nothing, as where the grammar without them was read.
@@ -62,6 +63,7 @@ impl Annotations for NoAnnotations {
 
     ghost meanings = { no_meanings };
 
+    #[tactic(auto, using(crate::proofs::Steps::stays))]
     fn contract(
         &self,
         _scope: &mut Scope,
@@ -71,6 +73,7 @@ impl Annotations for NoAnnotations {
         Ok(())
     }
 
+    #[tactic(auto, using(crate::proofs::Steps::stays))]
     fn invariant(
         &self,
         _scope: &mut Scope,
@@ -80,10 +83,12 @@ impl Annotations for NoAnnotations {
         Ok(())
     }
 
+    #[tactic(auto, using(crate::proofs::Steps::stays))]
     fn command(&self, _scope: &mut Scope, _command: &GhostCommand) -> Result<(), RuleFault> {
         Ok(())
     }
 
+    #[tactic(auto, using(crate::proofs::Steps::stays))]
     fn item(&self, _scope: &mut Scope, _item: &GhostItem) -> Result<(), RuleFault> {
         Ok(())
     }

@@ -2,10 +2,10 @@
 
 ghost use Rattle.std.specs.Prelude.{◌≡◌, OnOk, slice_get};
 ghost use Rattle.std.specs.Option.{option_copied};
-ghost use Rattle.vf_walk.specs.Items.{again_in, body_walked, contract_walked, declared_as, defined_walked, definition, definition_walked, function_number, head, is_main, listed, main_is_right, no_locals, owner, prototype, prototype_in, prototype_walked, result_type, signature_of, signature_walked, taken_from, without_locals};
+ghost use Rattle.vf_walk.specs.Items.{again_in, declared_as, defined_walked, function_number, head, is_main, listed, main_is_right, no_locals, owner, prototype_in, result_type, signature_of, signature_walked, taken_from, WalksBody, WalksContract, WalksDefinition, WalksDefinitionOf, WalksPrototype, WalksPrototypeOf, without_locals};
 ghost use Rattle.vf_declared.specs.Writing.{with_function, with_prototype};
 ghost use Rattle.vf_typing.specs.Types.{is_int};
-ghost use Rattle.vf_walk.specs.Walking.{Gives, optional};
+ghost use Rattle.vf_walk.specs.Walking.{Follows, Gives, Optional};
 
 use crate::annotations::{Annotations, Owner};
 use crate::names::{earlier, has_types};
@@ -145,7 +145,7 @@ fn walk_signature(
 }
 
 /// Whose contract it is.
-pub fn owner(signature: &Signature, given: CType, is_type: bool) -> Owner
+fn owner(signature: &Signature, given: CType, is_type: bool) -> Owner
     ensures { result ≡ owner signature.now given is_type }
 {
     Owner {
@@ -155,17 +155,22 @@ pub fn owner(signature: &Signature, given: CType, is_type: bool) -> Owner
     }
 }
 
-/// A contract, if there is one.
+/// The contract of a function or function type that gives a type, if there is one.
+#[tactic(auto, using(crate::proofs::Steps::absent))]
 pub fn walk_contract<A: Annotations>(
     scope: &mut Scope,
     annotations: &A,
-    owner: Owner,
+    signature: &Signature,
+    given: CType,
+    is_type: bool,
     contract: &Option<Contract>,
 ) -> Result<(), RuleFault>
-    ensures { Gives result scope.new (optional (A.meanings.contract owner) contract.now scope.old) }
+    ensures { Follows (Optional (A.meanings.contract (owner signature.now given is_type)) contract.now scope.old) result scope.new }
 {
     match contract {
-        Some(contract) => annotations.contract(scope, owner, contract),
+        Some(contract) => {
+            annotations.contract(scope, owner(signature, given, is_type), contract)
+        }
         None => Ok(()),
     }
 }
@@ -189,7 +194,6 @@ fn keep(alloc: Global, scope: &mut Scope, number: usize)
 }
 
 /// A prototype behind its head.
-#[tactic(auto, using(crate::proofs::Steps::go, crate::proofs::Steps::stop))]
 fn walk_prototype_behind<A: Annotations>(
     alloc: Global,
     scope: &mut Scope,
@@ -198,22 +202,16 @@ fn walk_prototype_behind<A: Annotations>(
     contract: &Option<Contract>,
     head: Head,
 ) -> Result<(), RuleFault>
-    ensures { Gives result scope.new (prototype_walked A.meanings signature.now contract.now head scope.old) }
+    ensures { Follows (WalksPrototypeOf A.meanings signature.now contract.now scope.old head) result scope.new }
 {
     let number = function_number(scope, head.earlier);
     walk_signature(alloc, scope, signature, head)?;
-    walk_contract(
-        scope,
-        annotations,
-        owner(signature, head.given, false),
-        contract,
-    )?;
+    walk_contract(scope, annotations, signature, head.given, false, contract)?;
     keep(alloc, scope, number);
     Ok(())
 }
 
 /// A prototype.
-#[tactic(auto, using(crate::proofs::Steps::go, crate::proofs::Steps::stop_at))]
 pub fn walk_prototype<A: Annotations>(
     alloc: Global,
     scope: &mut Scope,
@@ -221,7 +219,7 @@ pub fn walk_prototype<A: Annotations>(
     signature: &Signature,
     contract: &Option<Contract>,
 ) -> Result<(), RuleFault>
-    ensures { Gives result scope.new (prototype A.meanings signature.now contract.now scope.old) }
+    ensures { Follows (WalksPrototype A.meanings signature.now contract.now scope.old) result scope.new }
 {
     let head = find_head(scope, signature, false)?;
     walk_prototype_behind(alloc, scope, annotations, signature, contract, head)
@@ -256,6 +254,7 @@ fn take_prototype(
 }
 
 /// The contract of a definition, or that of its prototype.
+#[tactic(auto, using(crate::proofs::Steps::just))]
 fn walk_own_contract<A: Annotations>(
     alloc: Global,
     scope: &mut Scope,
@@ -265,7 +264,7 @@ fn walk_own_contract<A: Annotations>(
     number: usize,
     contract: &Option<Contract>,
 ) -> Result<(), RuleFault>
-    ensures { Gives result scope.new (contract_walked A.meanings signature.now given number contract.now scope.old) }
+    ensures { Follows (WalksContract A.meanings signature.now given number contract.now scope.old) result scope.new }
 {
     match contract {
         Some(contract) => annotations.contract(scope, owner(signature, given, false), contract),
@@ -274,6 +273,7 @@ fn walk_own_contract<A: Annotations>(
 }
 
 /// The body of a function.
+#[tactic(auto, using(crate::proofs::Steps::just))]
 fn walk_body<A: Annotations>(
     scope: &mut Scope,
     annotations: &A,
@@ -281,7 +281,7 @@ fn walk_body<A: Annotations>(
     given: CType,
     body: &Body,
 ) -> Result<(), RuleFault>
-    ensures { Gives result scope.new (body_walked A.meanings name.now given body.now scope.old) }
+    ensures { Follows (WalksBody A.meanings name.now given body.now scope.old) result scope.new }
 {
     if name.place.file == scope.file {
         walk_statements(scope, annotations, given, &body.statements)
@@ -314,7 +314,6 @@ pub fn clear(alloc: Global, scope: &mut Scope)
 }
 
 /// A function with its body, behind its head.
-#[tactic(auto, using(crate::proofs::Steps::go, crate::proofs::Steps::stop))]
 fn walk_definition_behind<A: Annotations>(
     alloc: Global,
     scope: &mut Scope,
@@ -324,7 +323,7 @@ fn walk_definition_behind<A: Annotations>(
     body: &Body,
     head: Head,
 ) -> Result<(), RuleFault>
-    ensures { Gives result scope.new (definition_walked A.meanings signature.now contract.now body.now head scope.old) }
+    ensures { Follows (WalksDefinitionOf A.meanings signature.now contract.now body.now scope.old head) result scope.new }
 {
     let number = function_number(scope, head.earlier);
     walk_defined(alloc, scope, signature, head)?;
@@ -343,7 +342,6 @@ fn walk_definition_behind<A: Annotations>(
 }
 
 /// A function with its body.
-#[tactic(auto, using(crate::proofs::Steps::go, crate::proofs::Steps::stop_at))]
 pub fn walk_definition<A: Annotations>(
     alloc: Global,
     scope: &mut Scope,
@@ -352,7 +350,7 @@ pub fn walk_definition<A: Annotations>(
     contract: &Option<Contract>,
     body: &Body,
 ) -> Result<(), RuleFault>
-    ensures { Gives result scope.new (definition A.meanings signature.now contract.now body.now scope.old) }
+    ensures { Follows (WalksDefinition A.meanings signature.now contract.now body.now scope.old) result scope.new }
 {
     let head = find_head(scope, signature, true)?;
     walk_definition_behind(alloc, scope, annotations, signature, contract, body, head)

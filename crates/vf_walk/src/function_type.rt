@@ -1,11 +1,11 @@
 //! Function types.
 
 ghost use Rattle.std.specs.Prelude.{◌≡◌};
-ghost use Rattle.vf_walk.specs.Items.{function_type, type_declared, type_named, type_signed, type_walked};
-ghost use Rattle.vf_walk.specs.Walking.{Gives};
+ghost use Rattle.vf_walk.specs.Items.{type_declared, type_named, type_signed, WalksType, WalksTypeOf};
+ghost use Rattle.vf_walk.specs.Walking.{Follows, Gives};
 
 use crate::annotations::Annotations;
-use crate::function::{clear, owner, result_type, walk_contract};
+use crate::function::{clear, result_type, walk_contract};
 use crate::names::is_new;
 use crate::parameters::{signature, walk_parameters};
 use std::alloc::Global;
@@ -57,7 +57,6 @@ fn walk_declared(
 }
 
 /// A function type that gives a type.
-#[tactic(auto, using(crate::proofs::Steps::go, crate::proofs::Steps::stop))]
 fn walk_giving<A: Annotations>(
     alloc: Global,
     scope: &mut Scope,
@@ -66,16 +65,16 @@ fn walk_giving<A: Annotations>(
     contract: &Option<Contract>,
     given: CType,
 ) -> Result<(), RuleFault>
-    ensures { Gives result scope.new (type_walked A.meanings signature.now contract.now given scope.old) }
+    ensures { Follows (WalksTypeOf A.meanings signature.now contract.now scope.old given) result scope.new }
 {
     walk_declared(alloc, scope, signature, given)?;
-    walk_contract(scope, annotations, owner(signature, given, true), contract)?;
+    walk_contract(scope, annotations, signature, given, true, contract)?;
     clear(alloc, scope);
     Ok(())
 }
 
 /// A function type.
-#[tactic(auto, using(crate::proofs::Steps::go, crate::proofs::Steps::stop_at))]
+#[tactic(auto, using(crate::proofs::Steps::end_at))]
 pub fn walk_function_type<A: Annotations>(
     alloc: Global,
     scope: &mut Scope,
@@ -83,7 +82,7 @@ pub fn walk_function_type<A: Annotations>(
     signature: &Signature,
     contract: &Option<Contract>,
 ) -> Result<(), RuleFault>
-    ensures { Gives result scope.new (function_type A.meanings signature.now contract.now scope.old) }
+    ensures { Follows (WalksType A.meanings signature.now contract.now scope.old) result scope.new }
 {
     let given = result_type(scope, &signature.result)?;
     walk_giving(alloc, scope, annotations, signature, contract, given)

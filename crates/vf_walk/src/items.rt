@@ -1,8 +1,8 @@
 //! Items of a unit.
 
 ghost use Rattle.std.specs.Prelude.{◌≡◌};
-ghost use Rattle.vf_walk.specs.Items.{walked_item, walked_items};
-ghost use Rattle.vf_walk.specs.Walking.{Gives};
+ghost use Rattle.vf_walk.specs.Items.{WalksItem, WalksItems};
+ghost use Rattle.vf_walk.specs.Walking.{Follows};
 
 use crate::annotations::Annotations;
 use crate::function::{walk_definition, walk_prototype};
@@ -14,13 +14,14 @@ use vf_declared::scope::Scope;
 use vf_syntax::item::Item;
 
 /// Walks over an item.
+#[tactic(auto, using(crate::proofs::Steps::just))]
 fn walk_item<A: Annotations>(
     alloc: Global,
     scope: &mut Scope,
     annotations: &A,
     item: &Item,
 ) -> Result<(), RuleFault>
-    ensures { Gives result scope.new (walked_item A.meanings item.now scope.old) }
+    ensures { Follows (WalksItem A.meanings item.now scope.old) result scope.new }
 {
     match item {
         Item::Opaque(_, name) => walk_struct_name(alloc, scope, name, true),
@@ -40,14 +41,14 @@ fn walk_item<A: Annotations>(
 
 /// Walks over items in the order of the text: what they declare is added to the scope, or the first of them that is
 /// refused is answered with its refusal, behind which the scope is of no use.
-#[tactic(auto, using(crate::proofs::Loops::items_stop, crate::proofs::Loops::items_none, crate::proofs::Loops::items_end))]
+#[tactic(auto, using(crate::proofs::Loops::leads_here, crate::proofs::Loops::items_more, crate::proofs::Loops::items_stop, crate::proofs::Loops::items_none, crate::proofs::Loops::items_end))]
 pub fn walk_items<A: Annotations>(
     alloc: Global,
     scope: &mut Scope,
     annotations: &A,
     items: &Sequence<Item>,
 ) -> Result<(), RuleFault>
-    ensures { Gives result scope.new (walked_items A.meanings items.now scope.old) }
+    ensures { Follows (WalksItems A.meanings items.now scope.old) result scope.new }
 {
     for at in 0..items.len() {
         let Some(item) = items.get(at) else {

@@ -2,8 +2,8 @@
 
 ghost use Rattle.std.specs.Prelude.{◌≡◌};
 ghost use Rattle.vf_syntax.specs.StmtTree.{stmt_list};
-ghost use Rattle.vf_walk.specs.Statements.{condition, count, first_part, for_body, for_head, inner, simple, walked_stmt, walked_stmts, without_first};
-ghost use Rattle.vf_walk.specs.Walking.{Gives, behind, optional};
+ghost use Rattle.vf_walk.specs.Statements.{condition, count, first_part, for_parts, Inner, simple, WalksForBody, WalksForHead, WalksStmt, WalksStmts, without_first};
+ghost use Rattle.vf_walk.specs.Walking.{Follows, Gives, Only, optional, Optional, Then};
 
 use crate::annotations::Annotations;
 use crate::variable::{walk_condition, walk_declaration, walk_first, walk_return, walk_simple};
@@ -46,13 +46,14 @@ fn walk_optional_simple(scope: &Scope, part: &Option<Simple>) -> Result<(), Rule
 }
 
 /// The invariant of a loop that stands in a file, if it has one.
+#[tactic(auto, using(crate::proofs::Steps::absent))]
 fn walk_invariant<A: Annotations>(
     scope: &mut Scope,
     annotations: &A,
     file: u32,
     invariant: &Option<Invariant>,
 ) -> Result<(), RuleFault>
-    ensures { Gives result scope.new (optional (A.meanings.invariant file) invariant.now scope.old) }
+    ensures { Follows (Optional (A.meanings.invariant file) invariant.now scope.old) result scope.new }
 {
     match invariant {
         Some(invariant) => annotations.invariant(scope, file, invariant),
@@ -61,7 +62,7 @@ fn walk_invariant<A: Annotations>(
 }
 
 /// What stands in front of the body of a `while`: its condition and its invariant.
-#[tactic(auto, using(crate::proofs::Steps::go, crate::proofs::Steps::stop))]
+#[tactic(auto, using(crate::proofs::Steps::end_of))]
 fn walk_while_head<A: Annotations>(
     scope: &mut Scope,
     annotations: &A,
@@ -69,7 +70,7 @@ fn walk_while_head<A: Annotations>(
     test: &Expr,
     invariant: &Option<Invariant>,
 ) -> Result<(), RuleFault>
-    ensures { Gives result scope.new (behind (optional (A.meanings.invariant file) invariant.now) (condition test.now scope.old)) }
+    ensures { Follows (Then (Only (condition test.now scope.old)) (Optional (A.meanings.invariant file) invariant.now)) result scope.new }
 {
     walk_condition(scope, test)?;
     walk_invariant(scope, annotations, file, invariant)
@@ -84,19 +85,27 @@ struct ForHead<'a> {
     invariant: &'a Option<Invariant>,
 }
 
-/// What stands in front of the body of a `for` at a place.
+/// The first part of a `for`, its condition and its step.
 #[tactic(auto, using(crate::proofs::Steps::go, crate::proofs::Steps::stop))]
+fn walk_for_parts(scope: &mut Scope, head: &ForHead<'_>) -> Result<(), RuleFault>
+    ensures { Gives result scope.new (for_parts head.now.start.now head.now.test.now head.now.step.now scope.old) }
+{
+    walk_optional_first(scope, head.start)?;
+    walk_optional_condition(scope, head.test)?;
+    walk_optional_simple(scope, head.step)
+}
+
+/// What stands in front of the body of a `for` at a place.
+#[tactic(auto, using(crate::proofs::Steps::end_of))]
 fn walk_for_head<A: Annotations>(
     scope: &mut Scope,
     annotations: &A,
     place: Place,
     head: &ForHead<'_>,
 ) -> Result<(), RuleFault>
-    ensures { Gives result scope.new (for_head A.meanings place head.now.start.now head.now.test.now head.now.step.now head.now.invariant.now scope.old) }
+    ensures { Follows (WalksForHead A.meanings place head.now.start.now head.now.test.now head.now.step.now head.now.invariant.now scope.old) result scope.new }
 {
-    walk_optional_first(scope, head.start)?;
-    walk_optional_condition(scope, head.test)?;
-    walk_optional_simple(scope, head.step)?;
+    walk_for_parts(scope, head)?;
     walk_invariant(scope, annotations, place.file, head.invariant)
 }
 
@@ -112,14 +121,14 @@ fn leave_first(scope: &mut Scope, count: usize, part: &Option<First>) -> Result<
 
 /// A statement whose locals are its own.
 #[cycle(stmt)]
-#[tactic(auto, using(crate::proofs::Steps::go, crate::proofs::Steps::stop))]
+#[tactic(auto, using(crate::proofs::Steps::end_here))]
 fn walk_inner<A: Annotations>(
     scope: &mut Scope,
     annotations: &A,
     given: CType,
     statement: &Stmt,
 ) -> Result<(), RuleFault>
-    ensures { Gives result scope.new (inner (walked_stmt A.meanings given statement.now) scope.old) }
+    ensures { Follows (Inner (WalksStmt A.meanings given statement.now) scope.old) result scope.new }
 {
     let count = scope.locals.names.len();
     walk_statement(scope, annotations, given, statement)?;
@@ -129,7 +138,6 @@ fn walk_inner<A: Annotations>(
 
 /// Two statements that follow a condition.
 #[cycle(stmt)]
-#[tactic(auto, using(crate::proofs::Steps::go, crate::proofs::Steps::stop))]
 fn walk_branches<A: Annotations>(
     scope: &mut Scope,
     annotations: &A,
@@ -138,7 +146,7 @@ fn walk_branches<A: Annotations>(
     yes: &Stmt,
     no: &Stmt,
 ) -> Result<(), RuleFault>
-    ensures { Gives result scope.new (behind (inner (walked_stmt A.meanings given no.now)) (behind (inner (walked_stmt A.meanings given yes.now)) (condition test.now scope.old))) }
+    ensures { Follows (Then (Then (Only (condition test.now scope.old)) (Inner (WalksStmt A.meanings given yes.now))) (Inner (WalksStmt A.meanings given no.now))) result scope.new }
 {
     walk_condition(scope, test)?;
     walk_inner(scope, annotations, given, yes)?;
@@ -147,7 +155,7 @@ fn walk_branches<A: Annotations>(
 
 /// A statement that follows a condition.
 #[cycle(stmt)]
-#[tactic(auto, using(crate::proofs::Steps::go, crate::proofs::Steps::stop))]
+#[tactic(auto, using(crate::proofs::Steps::end_of))]
 fn walk_if<A: Annotations>(
     scope: &mut Scope,
     annotations: &A,
@@ -155,15 +163,33 @@ fn walk_if<A: Annotations>(
     test: &Expr,
     yes: &Stmt,
 ) -> Result<(), RuleFault>
-    ensures { Gives result scope.new (behind (inner (walked_stmt A.meanings given yes.now)) (condition test.now scope.old)) }
+    ensures { Follows (Then (Only (condition test.now scope.old)) (Inner (WalksStmt A.meanings given yes.now))) result scope.new }
 {
     walk_condition(scope, test)?;
     walk_inner(scope, annotations, given, yes)
 }
 
+/// A `while` that stands in a file.
+#[cycle(stmt)]
+#[tactic(auto, using(crate::proofs::Steps::end_here))]
+fn walk_while<A: Annotations>(
+    scope: &mut Scope,
+    annotations: &A,
+    given: CType,
+    file: u32,
+    test: &Expr,
+    invariant: &Option<Invariant>,
+    body: &Stmt,
+) -> Result<(), RuleFault>
+    ensures { Follows (Then (Then (Only (condition test.now scope.old)) (Optional (A.meanings.invariant file) invariant.now)) (Inner (WalksStmt A.meanings given body.now))) result scope.new }
+{
+    walk_while_head(scope, annotations, file, test, invariant)?;
+    walk_inner(scope, annotations, given, body)
+}
+
 /// The body of a `for`, before whose first part so many locals stood.
 #[cycle(stmt)]
-#[tactic(auto, using(crate::proofs::Steps::go, crate::proofs::Steps::stop))]
+#[tactic(auto, using(crate::proofs::Steps::last, crate::proofs::Steps::end_here))]
 fn walk_for_body<A: Annotations>(
     scope: &mut Scope,
     annotations: &A,
@@ -172,7 +198,7 @@ fn walk_for_body<A: Annotations>(
     start: &Option<First>,
     body: &Stmt,
 ) -> Result<(), RuleFault>
-    ensures { Gives result scope.new (for_body start.now count (walked_stmt A.meanings given body.now) scope.old) }
+    ensures { Follows (WalksForBody start.now count (WalksStmt A.meanings given body.now) scope.old) result scope.new }
 {
     walk_inner(scope, annotations, given, body)?;
     leave_first(scope, count, start)
@@ -180,7 +206,6 @@ fn walk_for_body<A: Annotations>(
 
 /// A `for` at a place.
 #[cycle(stmt)]
-#[tactic(auto, using(crate::proofs::Steps::go, crate::proofs::Steps::stop))]
 fn walk_for<A: Annotations>(
     scope: &mut Scope,
     annotations: &A,
@@ -189,7 +214,7 @@ fn walk_for<A: Annotations>(
     head: &ForHead<'_>,
     body: &Stmt,
 ) -> Result<(), RuleFault>
-    ensures { Gives result scope.new (behind (for_body head.now.start.now (count scope.old) (walked_stmt A.meanings given body.now)) (for_head A.meanings place head.now.start.now head.now.test.now head.now.step.now head.now.invariant.now scope.old)) }
+    ensures { Follows (Then (WalksForHead A.meanings place head.now.start.now head.now.test.now head.now.step.now head.now.invariant.now scope.old) (WalksForBody head.now.start.now (count scope.old) (WalksStmt A.meanings given body.now))) result scope.new }
 {
     let count = scope.locals.names.len();
     walk_for_head(scope, annotations, place, head)?;
@@ -198,14 +223,14 @@ fn walk_for<A: Annotations>(
 
 /// A statement in a function that gives a type.
 #[cycle(stmt)]
-#[tactic(auto, using(crate::proofs::Steps::go, crate::proofs::Steps::stop))]
+#[tactic(auto, using(crate::proofs::Steps::just))]
 fn walk_statement<A: Annotations>(
     scope: &mut Scope,
     annotations: &A,
     given: CType,
     statement: &Stmt,
 ) -> Result<(), RuleFault>
-    ensures { Gives result scope.new (walked_stmt A.meanings given statement.now scope.old) }
+    ensures { Follows (WalksStmt A.meanings given statement.now scope.old) result scope.new }
 {
     match &statement.node {
         StmtNode::Declaration(written, name, value, _) => walk_declaration(
@@ -215,8 +240,8 @@ fn walk_statement<A: Annotations>(
         StmtNode::If(test, yes) => walk_if(scope, annotations, given, test, yes),
         StmtNode::IfElse(test, yes, no) => walk_branches(scope, annotations, given, test, yes, no),
         StmtNode::While(test, invariant, body) => {
-            walk_while_head(scope, annotations, statement.place.file, test, invariant)?;
-            walk_inner(scope, annotations, given, body)
+            let file = statement.place.file;
+            walk_while(scope, annotations, given, file, test, invariant, body)
         }
         StmtNode::For(start, test, step, invariant, body) => {
             let head = ForHead {
@@ -228,27 +253,39 @@ fn walk_statement<A: Annotations>(
             walk_for(scope, annotations, given, statement.place, &head, body)
         }
         StmtNode::Return(value, _) => walk_return(scope, given, statement.place, value),
-        StmtNode::Block(statements, _) => {
-            let count = scope.locals.names.len();
-            walk_statements(scope, annotations, given, statements)?;
-            scope.locals.leave(count);
-            Ok(())
-        }
+        StmtNode::Block(statements, _) => walk_block(scope, annotations, given, statements),
         StmtNode::Empty => Ok(()),
         StmtNode::Ghost(command) => annotations.command(scope, command),
     }
 }
 
+/// Statements whose locals are their own.
+#[cycle(stmt)]
+#[tactic(auto, using(crate::proofs::Steps::end_here))]
+fn walk_block<A: Annotations>(
+    scope: &mut Scope,
+    annotations: &A,
+    given: CType,
+    statements: &StmtList,
+) -> Result<(), RuleFault>
+    ensures { Follows (Inner (WalksStmts A.meanings given (stmt_list statements.now)) scope.old) result scope.new }
+{
+    let count = scope.locals.names.len();
+    walk_statements(scope, annotations, given, statements)?;
+    scope.locals.leave(count);
+    Ok(())
+}
+
 /// Statements in a function that gives a type.
 #[cycle(stmt)]
-#[tactic(auto, using(crate::proofs::Lists::stmt_smaller, crate::proofs::Loops::stmts_stop, crate::proofs::Loops::stmts_none, crate::proofs::Loops::stmts_end))]
+#[tactic(auto, using(crate::proofs::Lists::stmt_smaller, crate::proofs::Loops::leads_here, crate::proofs::Loops::stmts_more, crate::proofs::Loops::stmts_stop, crate::proofs::Loops::stmts_none, crate::proofs::Loops::stmts_end))]
 pub fn walk_statements<A: Annotations>(
     scope: &mut Scope,
     annotations: &A,
     given: CType,
     statements: &StmtList,
 ) -> Result<(), RuleFault>
-    ensures { Gives result scope.new (walked_stmts A.meanings given (stmt_list statements.now) scope.old) }
+    ensures { Follows (WalksStmts A.meanings given (stmt_list statements.now) scope.old) result scope.new }
 {
     for at in 0..statements.len() {
         let Some(statement) = statements.get(at) else {
