@@ -3,3 +3,4 @@ pub mod Meanings
 pub mod Statements
 pub mod Names
 pub mod Items
+pub mod Agreeing

@@ -7,6 +7,7 @@ pub mod annotations;
 mod function;
 mod function_type;
 mod items;
+mod laws;
 mod names;
 mod parameters;
 mod statement;
@@ -17,3 +18,4 @@ mod variable;
 
 pub use annotations::{Annotations, NoAnnotations, Owner};
 pub use items::walk_items;
+pub use laws::walks_agree;
