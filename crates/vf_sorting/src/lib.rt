@@ -9,17 +9,20 @@
 mod context;
 mod forms;
 mod fresh;
-mod kinds;
-mod names;
+pub mod kinds;
+pub mod names;
 mod operand;
 mod operators;
-mod refusal;
+pub mod refusal;
 mod scheme;
 mod sorts;
 mod words;
-mod written;
+pub mod written;
 
 pub use context::Context;
 pub use scheme::Scheme;
 pub use sorts::{checked, sorted};
 pub use written::written_sort;
+
+#[cfg(test)]
+mod tests;

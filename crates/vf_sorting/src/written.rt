@@ -21,7 +21,12 @@ use vf_syntax::sort::{Sort as WrittenSort, SortList as WrittenSorts, SortNode};
 use vf_syntax::written::TypeForm;
 
 /// The sort of a type of C that is written at a place.
-fn form_sort(alloc: Global, scope: &Scope, place: Place, form: &TypeForm) -> Result<Sort, RuleFault>
+pub fn form_sort(
+    alloc: Global,
+    scope: &Scope,
+    place: Place,
+    form: &TypeForm,
+) -> Result<Sort, RuleFault>
     ensures { Answers (λ t. spelled.form_sort scope.now place form.now ≡ Ok t) (λ r. spelled.form_sort scope.now place form.now ≡ Err r) result }
 {
     match form {
@@ -43,7 +48,7 @@ fn form_sort(alloc: Global, scope: &Scope, place: Place, form: &TypeForm) -> Res
 }
 
 /// The number of the datatype that a name of file level means, where it means one.
-fn datatype_meant(scope: &Scope, meaning: Option<Meaning>) -> Option<usize>
+pub fn datatype_meant(scope: &Scope, meaning: Option<Meaning>) -> Option<usize>
     ensures { result ≡ spelled.datatype_meant scope.now meaning }
 {
     match meaning {
