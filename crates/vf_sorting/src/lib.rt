@@ -8,7 +8,7 @@
 
 mod context;
 mod forms;
-mod fresh;
+pub mod fresh;
 pub mod kinds;
 pub mod names;
 mod operand;
@@ -16,7 +16,7 @@ mod operators;
 pub mod refusal;
 mod scheme;
 mod sorts;
-mod words;
+pub mod words;
 pub mod written;
 
 pub use context::Context;

@@ -32,7 +32,7 @@ pub fn sort_of_type(alloc: Global, ctype: CType) -> Sort
 }
 
 /// The sort of a local.
-fn sort_of_local(alloc: Global, local: &Local) -> Result<Sort, Memory>
+pub fn sort_of_local(alloc: Global, local: &Local) -> Result<Sort, Memory>
     ensures { IfOk result (λ t. t ≡ schemes.sort_of_local local.now) }
 {
     match local {
@@ -211,7 +211,7 @@ pub fn is_function_type(meaning: Option<Meaning>) -> bool
 }
 
 /// Whether a name is `is_T` for a function type T that is seen from a file.
-fn tests_type(alloc: Global, scope: &Scope, name: &Text, file: u32) -> Result<bool, Memory>
+pub fn tests_type(alloc: Global, scope: &Scope, name: &Text, file: u32) -> Result<bool, Memory>
     ensures { IfOk result (λ yes. yes ≡ schemes.tests_type scope.now name.now file) }
 {
     let bytes = name.as_bytes();
