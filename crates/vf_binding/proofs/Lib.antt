@@ -1,0 +1,5 @@
+pub mod Lists
+pub mod Steps
+pub mod Applied
+pub mod Parts
+pub mod Pointed

@@ -1,0 +1,5 @@
+pub mod Bound
+pub mod Patterns
+pub mod Shares
+pub mod Chunks
+pub mod Answers
