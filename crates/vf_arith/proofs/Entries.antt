@@ -4,7 +4,7 @@ use Rattle.std.specs.Prelude.{ℤ, pos, ◌+ℤ◌, ◌≤ℤ◌, ◌<ℤ◌, Co
 use Rattle.std.proofs.lemmas.Int.{ints, clamps, by_lt_z}
 use Rattle.std.proofs.lemmas.List.Sums.{sum_by-cons}
 use Rattle.std.specs.Prelude.{count_by, cond}
-use Rattle.std.proofs.lemmas.Nat.{div-mul-add, mod-mul-add, mul-add-lt}
+use Rattle.std.proofs.lemmas.Nat.{div-mul-add, mod-mul-add, mul-add-lt, div_below, mod_below, div-add-mod'}
 use Rattle.std.proofs.lemmas.List.Elements.{Contains-push, Contains-push_cases}
 use Rattle.std.proofs.lemmas.Bool.{cases_lt}
 use Rattle.std.proofs.lemmas.Option.{none-some}
@@ -61,7 +61,7 @@ matrix_closes size edges c matrix e t is unset new inx iny back below = record {
 pub matrix_relaxed : (size : ℕ) (edges : List Edge) (c : Bool) (matrix after : List (Option ℤ)) (e : Edge) (row column : List (Option ℤ)) (most : ℤ) → most ≡ e.most → IsMatrix size edges c matrix → c ≡ false → IsSmall (2 ^ 100) e.most → e.from < size → e.to < size →
     ((t : ℤ) → distance size matrix e.to e.from ≡ Some t → (t +ℤ e.most) <ℤ pos 0 → ⊥) → length after ≡ length matrix →
     ((k : ℕ) → k < size → entry column k ≡ distance size matrix k e.from) → ((k : ℕ) → k < size → entry row k ≡ distance size matrix e.to k) →
-    ((k : ℕ) → k < length matrix → entry after k ≡ lesser (entry matrix k) (over_edge (entry column (k / size)) most (entry row (k % size)))) →
+    ((x y : ℕ) → x < size → y < size → distance size after x y ≡ lesser (distance size matrix x y) (over_edge (entry column x) most (entry row y))) →
     IsMatrix size (edges ++ e ∷ []) c after
 matrix_relaxed size edges c matrix after e row column most mis is unset new inx iny fine long columns rows entries = record {
   few = is.few;
@@ -70,10 +70,10 @@ matrix_relaxed size edges c matrix after e row column most mis is unset new inx 
   small = small_more edges e is.small new;
   exact = λ f. distances_more size edges (distance size matrix) (distance size after) e (is.exact unset) inx iny
       (λ t h. by_lt_z (t +ℤ e.most) (pos 0) (λ k. absurd (fine t h k)) (λ k. k))
-      (λ x y i j. entries (x * size + y) (let l = mul-add-lt x size y size i j in let g = is.long in omega arith)
-      ∙ ap (λ (m : ℤ). lesser (distance size matrix x y) (over_edge (entry column ((x * size + y) / size)) m (entry row ((x * size + y) % size)))) mis
-      ∙ ap (λ (o : Option ℤ). lesser (distance size matrix x y) (over_edge o e.most (entry row ((x * size + y) % size)))) (ap (entry column) (div-mul-add x size y j) ∙ columns x i)
-      ∙ ap (λ (o : Option ℤ). lesser (distance size matrix x y) (over_edge (distance size matrix x e.from) e.most o)) (ap (entry row) (mod-mul-add x size y j) ∙ rows y j));
+      (λ x y i j. entries x y i j
+      ∙ ap (λ (m : ℤ). lesser (distance size matrix x y) (over_edge (entry column x) m (entry row y))) mis
+      ∙ ap (λ (o : Option ℤ). lesser (distance size matrix x y) (over_edge o e.most (entry row y))) (columns x i)
+      ∙ ap (λ (o : Option ℤ). lesser (distance size matrix x y) (over_edge (distance size matrix x e.from) e.most o)) (rows y j));
   bad = λ t. absurd (cc);
 }
 
@@ -201,10 +201,10 @@ count_falls (x ∷ xs) (y ∷ ys) (suc j) e h l a b = simp sum_by-cons (one (is_
 
 -- where the matrix is relaxed by an edge of at most 0 between two points that were not within 0
 pub weight_falls : (size : ℕ) (edges : List Edge) (c : Bool) (matrix after : List (Option ℤ)) (e : Edge) → IsMatrix size edges c matrix → c ≡ false → IsMatrix size (edges ++ e ∷ []) c after →
-    ((k : ℕ) → k < length matrix → (o : Option ℤ) × (entry after k ≡ lesser (entry matrix k) o)) → e.most ≤ℤ pos 0 → ((v : ℤ) → v ≤ℤ pos 0 → Path edges e.from e.to v → ⊥) → count_by is_above after < count_by is_above matrix
+    ((x y : ℕ) → x < size → y < size → (o : Option ℤ) × (distance size after x y ≡ lesser (distance size matrix x y) o)) → e.most ≤ℤ pos 0 → ((v : ℤ) → v ≤ℤ pos 0 → Path edges e.from e.to v → ⊥) → count_by is_above after < count_by is_above matrix
 weight_falls size edges c matrix after e is unset next entries below without_edges =
     count_falls matrix after (e.from * size + e.to) (next.long ∙ sym is.long)
-    (λ k l h. let d = entries k l in rw d.1 (lesser_above (entry matrix k) d.0 h))
+    falls
     (let l = mul-add-lt e.from size e.to size inx iny in let g = is.long in omega arith)
     (was_above (is_above (distance size matrix e.from e.to)) refl)
     (under_above (distance size after e.from e.to) (weaken (distance size after e.from e.to) e.most below ((next.exact unset).edge e (Contains-push edges e))))
@@ -214,6 +214,13 @@ weight_falls size edges c matrix after e is unset next entries below without_edg
 
     iny : e.to < size
     iny = ((next.exact unset).points e (Contains-push edges e)).1
+
+    falls : (k : ℕ) → k < length matrix → is_above (entry matrix k) ≡ false → is_above (entry after k) ≡ false
+    falls k l h =
+        let some : 0 < size = omega (arith, inx) in
+        let d = entries (k / size) (k % size) (div_below k size size some (let g = is.long in omega arith)) (mod_below k size some) in
+        let place : k / size * size + k % size ≡ k = div-add-mod' k size in
+        subst (λ j. is_above (entry after j) ≡ false) place (rw d.1 (lesser_above (distance size matrix (k / size) (k % size)) d.0 (subst (λ j. is_above (entry matrix j) ≡ false) (sym place) h)))
 
     weaken : (o : Option ℤ) (m : ℤ) → m ≤ℤ pos 0 → IsUnder o m → IsUnder o (pos 0)
     weaken None m l h = h

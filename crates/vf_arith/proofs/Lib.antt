@@ -1,3 +1,5 @@
 pub mod Distances
 pub mod Simplified
+pub mod Journals
 pub mod Entries
+pub mod Histories

@@ -1,2 +1,4 @@
 pub mod Paths
+pub mod Steps
 pub mod Matrices
+pub mod Histories

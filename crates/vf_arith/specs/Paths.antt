@@ -1,6 +1,7 @@
 -- Bounds on differences as a weighted graph: an edge from x to y of weight c says x - y <= c, and a path adds up.
 use Rattle.std.specs.Prelude.{ℕ, ℤ, pos, neg_ℤ, ◌+ℤ◌, ◌≤ℤ◌, ◌<ℤ◌, List, Contains}
 use Rattle.vf_arith.specs.declared.bounds.Edge.{Edge}
+use Rattle.vf_arith.specs.declared.bounds.Step.{Step}
 
 -- a path of edges from one point to another, with its weight
 pub data Path (edges : List Edge) : ℕ → ℕ → ℤ → Type 0 where
@@ -24,8 +25,9 @@ pub record IsSmall (m : ℕ) (z : ℤ) : Type 0 where
   pub low : neg_ℤ (pos m) ≤ℤ z
   pub high : z ≤ℤ pos m
 
--- What a contract sees of bounds: how many points there are, the bounds that were added in order, and a number that falls wherever two points come within 0
+-- What a contract sees of bounds: how many points there are, the bounds that were added in order, both in the order in which they came, and a number that falls wherever two points come within 0
 pub record Network : Type 0 where
   pub size : ℕ
   pub edges : List Edge
+  pub steps : List Step
   pub weight : ℕ

@@ -1,12 +1,14 @@
 //! Bounds on differences of integer terms, with the least that follows from them.
 //!
 //! A bound `x - y <= c` is an edge of a graph. A matrix keeps the least weight of a path between each
-//! two points, and is brought up to date with each edge.
+//! two points, and is brought up to date with each edge. What an edge changes in it is kept aside, so
+//! that edges and points can be taken back, the last first.
 #![tactic(auto)]
 
 mod bounds;
+mod journal;
 mod matrix;
 #[cfg(test)]
 mod tests;
 
-pub use bounds::{Bounds, Edge, MOST_POINTS, is_small};
+pub use bounds::{Bounds, Edge, MOST_POINTS, Step, is_small};

@@ -2,24 +2,14 @@
 
 ghost use Rattle.std.specs.Prelude.{◌≡◌, ℕ, ◌*◌, ◌/◌, ◌%◌, ◌<◌, ◌≤◌, ◌^◌, ◌↔◌, ◌+ℤ◌, ◌<ℤ◌, ◌==◌, if◌then◌else◌, ℤ, pos, length, IsTrue, IfOk};
 ghost use Rattle.vf_arith.specs.Paths.{IsSmall};
-ghost use Rattle.vf_arith.specs.Matrices.{AreSmall, entry, distance, lesser, over_edge};
+ghost use Rattle.vf_arith.specs.Matrices.{entry, distance, over_edge};
+ghost use Rattle.vf_arith.specs.Histories.{IsDistanceIn};
 
 use std::alloc::Global;
 use vf_base::Memory;
 
-/// The lesser of two distances; none is above every number.
-fn lesser_of(a: Option<i128>, b: Option<i128>) -> Option<i128>
-    ensures { result ≡ lesser a b }
-{
-    match (a, b) {
-        (None, _) => b,
-        (Some(v), None) => Some(v),
-        (Some(v), Some(w)) => Some(v.min(w)),
-    }
-}
-
 /// The distance over an edge.
-fn way_over(before: Option<i128>, most: i128, after: Option<i128>) -> Option<i128>
+pub fn way_over(before: Option<i128>, most: i128, after: Option<i128>) -> Option<i128>
     requires before { (v : ℤ) → before ≡ Some v → IsSmall (2 ^ 124) v }
     requires most { IsSmall (2 ^ 100) most }
     requires after { (v : ℤ) → after ≡ Some v → IsSmall (2 ^ 124) v }
@@ -69,28 +59,6 @@ pub fn column(
     Ok(out)
 }
 
-/// Shortens each distance by the way over an edge, the distances to its beginning and from its end
-/// being given.
-pub fn relax(
-    matrix: &mut [Option<i128>],
-    before: &[Option<i128>],
-    most: i128,
-    after: &[Option<i128>],
-)
-    requires few { length before.now ≤ 2 ^ 24 }
-    requires long { length matrix.old ≡ length before.now * length before.now }
-    requires same { length after.now ≡ length before.now }
-    requires before { AreSmall before.now }
-    requires most { IsSmall (2 ^ 100) most }
-    requires after { AreSmall after.now }
-    ensures { (k : ℕ) → k < length matrix.old → entry matrix.new k ≡ lesser (entry matrix.old k) (over_edge (entry before.now (k / length before.now)) most (entry after.now (k % length before.now))) }
-{
-    let size = before.len();
-    for (k, slot) in matrix.iter_mut().enumerate() {
-        *slot = lesser_of(*slot, way_over(before[k / size], most, after[k % size]));
-    }
-}
-
 /// Whether the way back over an edge makes a cycle below 0.
 pub fn closes_below(back: Option<i128>, most: i128) -> bool
     requires back { (v : ℤ) → back ≡ Some v → IsSmall (2 ^ 124) v }
@@ -115,4 +83,40 @@ pub fn without_edges(alloc: Global, size: u32) -> Result<Vec<Option<i128>>, Memo
         matrix.push(if k / size == k % size { Some(0) } else { None })?;
     }
     Ok(matrix)
+}
+
+/// The distance of two points in a matrix, or beyond it: 0 from a point to itself, and none between
+/// two.
+fn distance_in(matrix: &[Option<i128>], size: u32, x: u32, y: u32) -> Option<i128>
+    requires few { size ≤ 2 ^ 24 }
+    requires long { length matrix.now ≡ size * size }
+    ensures { IsDistanceIn size (distance size matrix.now) x y result }
+{
+    if x < size && y < size {
+        return matrix[x as usize * size as usize + y as usize];
+    }
+    if x == y { Some(0) } else { None }
+}
+
+/// The matrix with more points, which have no edges.
+pub fn widened(
+    alloc: Global,
+    matrix: &[Option<i128>],
+    size: u32,
+    width: u32,
+) -> Result<Vec<Option<i128>>, Memory>
+    requires few { width ≤ 2 ^ 24 }
+    requires more { size ≤ width }
+    requires long { length matrix.now ≡ size * size }
+    ensures long { IfOk result (λ v. length v.items ≡ width * width) }
+    ensures entries { IfOk result (λ v. (x y : ℕ) → x < width → y < width → IsDistanceIn size (distance size matrix.now) x y (distance width v.items x y)) }
+{
+    let width = width as usize;
+    let mut wide = Vec::new(alloc);
+    for k in 0..width * width {
+        let x = (k / width) as u32;
+        let y = (k % width) as u32;
+        wide.push(distance_in(matrix, size, x, y))?;
+    }
+    Ok(wide)
 }

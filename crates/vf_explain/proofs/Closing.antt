@@ -121,3 +121,11 @@ next_of_integers nodes edges i d l here each k e m there = elim (ℕ_discrete k 
       subst (λ (w : Edge). IsInteger nodes w.from × IsInteger nodes w.to) same here)
   | no n ↦ each k e (omega (arith, m, n)) there
 ]
+
+none_sums : {x y : ℕ} {c : ℤ} → Path [] x y c → pos 0 ≤ℤ c
+none_sums path_none = omega (arith, ints)
+none_sums (path_edge e m h) = absurd (let l = m.1 in omega arith)
+
+-- where there are no bounds none leads back below 0
+pub open_none : (edges : List Edge) → edges ≡ [] → HasNegativeCycle edges → ⊥
+open_none edges e h = let k : HasNegativeCycle [] = subst HasNegativeCycle e h in let z = none_sums k.cycle in let b = k.below in omega (arith, ints)
