@@ -1,0 +1,5 @@
+pub mod Parts
+pub mod Places
+pub mod Lists
+pub mod Calls
+pub mod Loops

@@ -1,0 +1,11 @@
+pub mod Did
+pub mod Lowering
+pub mod Settings
+pub mod Branches
+pub mod Conversions
+pub mod Operands
+pub mod Expressions
+pub mod Shown
+pub mod Simple
+pub mod Statements
+pub mod Examples
