@@ -1,8 +1,9 @@
 -- Facts on classes and on the least congruence.
-use Rattle.std.proofs.Common.{◌≡◌, ℕ, zero, suc, ◌<◌, ◌≤◌, inl, inr, List, [], ◌∷◌, length, sum, get_or, slice_index, slice_get, Some, refl, sym, ◌∙◌, ap, subst, arith, All}
+use Rattle.std.proofs.Common.{◌≡◌, ℕ, zero, suc, ◌<◌, ◌≤◌, ◌⊎◌, inl, inr, List, [], ◌∷◌, length, sum, get_or, slice_index, slice_get, Some, refl, sym, ◌∙◌, ap, subst, arith, All}
 use Rattle.std.proofs.Math.Decide.{ℕ_discrete}
 use Rattle.std.proofs.lemmas.Option.{slice_get_within, get_or_from_slice_get}
 use Rattle.std.proofs.Math.Seq.{take-append_seam}
+use Rattle.std.proofs.lemmas.List.{get_or_default}
 use Rattle.std.proofs.lemmas.List.Elements.{Contains-push, Contains-append_left, Contains-push_cases}
 use Rattle.std.proofs.Common.{◌++◌, ◌^◌, take}
 use Rattle.std.proofs.lemmas.List.Sums.{sum_by-cons}
@@ -10,7 +11,7 @@ use Rattle.std.proofs.Common.{Bool, true, false, IsTrue, IsFalse}
 use Rattle.vf_table.specs.declared.node.Node.{Node}
 use Rattle.vf_table.specs.Tables.{IsInjective, PartsAreBelow}
 use Rattle.vf_congruence.specs.Congruence.{Congruent, based, congruent_self, congruent_back, congruent_through, by_parts, of_parts, WereMerged}
-use Rattle.vf_congruence.specs.Meeting.{AreTogether, PartsAreTogether, StayTogether, IsPaired, AreTogetherOrPaired, OnlyPairedMeet, OnlyCongruentMeet, IsSettledAt, IsSettled, IsLeast}
+use Rattle.vf_congruence.specs.Meeting.{AreTogether, PartsAreTogether, StayTogether, IsPaired, AreTogetherOrPaired, OnlyPairedMeet, OnlyCongruentMeet, IsSettledAt, IsSettled, IsStillAt, AreNumbersBounded, IsLeast}
 
 -- a congruence over a base that another congruence has lies in that one
 pub congruent_bind : {nodes : List Node} {base base' : ℕ → ℕ → Type 0} {a b : ℕ} → Congruent nodes base a b → ((x y : ℕ) → base x y → Congruent nodes base' x y) → Congruent nodes base' a b
@@ -235,3 +236,73 @@ least_none nodes before after long long' few parts first sound complete = record
 pub join_falls : (before middle : List ℕ) (a b : ℕ) (two : Bool) → slice_index middle a ≡ slice_index middle b → (IsFalse two → middle ≡ before) → (IsTrue two → sum middle < sum before) → (slice_index before a ≡ slice_index before b → ⊥) → sum middle < sum before
 join_falls before middle a b true joined same falls apart = falls refl
 join_falls before middle a b false joined same falls apart = absurd (apart (subst (λ (z : List ℕ). slice_index z a ≡ slice_index z b) (same refl) joined))
+
+-- ---- what was settled stays so where nothing moved
+
+parts_back : (classes : List ℕ) (xs ys : List ℕ) → PartsAreTogether classes xs ys → PartsAreTogether classes ys xs
+parts_back classes xs ys h = (sym h.0, λ i w. sym (h.1 i (let l = h.0 in omega arith)))
+
+pub settled_back : (nodes : List Node) (classes : List ℕ) (a b : ℕ) → IsSettledAt nodes classes a b → IsSettledAt nodes classes b a
+settled_back nodes classes a b s = record {
+  whole = λ m n p q e k. sym (s.whole n m q p (sym e) (parts_back classes m.parts.items n.parts.items k));
+  part = λ m n p q t e l k. parts_back classes n.parts.items m.parts.items (s.part n m q p (subst IsInjective e t) (sym e) (sym l) (sym k));
+}
+
+pub settled_still : (nodes : List Node) (before classes : List ℕ) (a b : ℕ) → IsStillAt nodes before classes a → IsStillAt nodes before classes b → IsSettledAt nodes before a b → IsSettledAt nodes classes a b
+settled_still nodes before classes a b one other s = record {
+  whole = λ m n p q e k. sym one.own.same
+      ∙ s.whole m n p q e (k.0, λ i w. (one.parts m p i w).same ∙ k.1 i w ∙ sym (other.parts n q i (let l = k.0 in omega arith)).same)
+      ∙ other.own.same;
+  part = λ m n p q t e l k.
+      let h = s.part m n p q t e l (one.own.same ∙ k ∙ sym other.own.same) in
+      (l, λ i w. sym (one.parts m p i w).same ∙ h.1 i w ∙ (other.parts n q i (omega arith)).same);
+}
+
+-- where each term is still, or settled with each other one
+pub settled_rows : (nodes : List Node) (before classes : List ℕ) → IsSettled nodes before → ((j : ℕ) → j < length classes → IsStillAt nodes before classes j ⊎ ((k : ℕ) → k < length classes → IsSettledAt nodes classes j k)) → IsSettled nodes classes
+settled_rows nodes before classes settled rows a b ina inb = elim (rows a ina) [
+  | inr s ↦ s b inb
+  | inl one ↦ elim (rows b inb) [
+    | inr s ↦ settled_back nodes classes b a (s a ina)
+    | inl other ↦ settled_still nodes before classes a b one other (settled a b one.own.within other.own.within)
+  ]
+]
+
+-- classes of the least congruence leave nothing to join
+pub least_settled : (nodes : List Node) (merged : List (ℕ × ℕ)) (classes : List ℕ) → IsLeast nodes merged classes → IsSettled nodes classes
+least_settled nodes merged classes is a b ina inb = record {
+  whole = λ m n p q e k. is.complete a b (by_parts p q e k.0 (λ i w. is.sound (slice_index m.parts.items i) (slice_index n.parts.items i) (record { left = below a m p i w; right = below b n q i (let l = k.0 in omega arith); one = k.1 i w })));
+  part = λ m n p q t e l k. (l, λ i w. is.complete (slice_index m.parts.items i) (slice_index n.parts.items i) (of_parts p q t e l w (is.sound a b (record { left = ina; right = inb; one = k }))));
+}
+  where
+    below : (x : ℕ) (m : Node) → slice_get nodes x ≡ Some m → (i : ℕ) → i < length m.parts.items → slice_index m.parts.items i < length classes
+    below x m p i w = parts_are_terms nodes (length classes) x m is.parts (slice_get_within nodes x m p) p i 0 w
+
+-- a pair that is in one class is merged already
+pub least_same : (nodes : List Node) (merged : List (ℕ × ℕ)) (classes : List ℕ) (a b : ℕ) → IsLeast nodes merged classes → a < length classes → b < length classes → slice_index classes a ≡ slice_index classes b → IsLeast nodes (merged ++ (a, b) ∷ []) classes
+least_same nodes merged classes a b is ina inb same = least_more nodes merged classes classes a b is ina inb refl
+    (λ x y h. based (inl h))
+    (λ x y h. settled_has nodes classes (AreTogetherOrPaired classes (a ∷ []) (b ∷ [])) is.long (least_settled nodes merged classes is)
+    (λ u w. elim [ inl k ↦ k.one | inr k ↦ only_pair (λ u w. slice_index classes u ≡ slice_index classes w) a b same u w k ]) h)
+
+-- two reads of a list that gave one number
+pub read_same : (classes : List ℕ) (a b x y : ℕ) → a < length classes → b < length classes → x ≡ get_or classes a x → y ≡ get_or classes b y → x ≡ y → slice_index classes a ≡ slice_index classes b
+read_same classes a b x y ina inb ex ey same = get_or_default classes a 0 x ina ∙ sym ex ∙ same ∙ ey ∙ sym (get_or_default classes b 0 y inb)
+
+-- ---- the numbers of classes
+
+-- one class is given the number of another
+pub bounded_renamed : (before after : List ℕ) (from to s : ℕ) →
+    ((k : ℕ) → k < length before → slice_index before k ≡ from → slice_index after k ≡ to) →
+    ((k : ℕ) → (slice_index before k ≡ from → ⊥) → slice_index after k ≡ slice_index before k) →
+    s < length before → slice_index before s ≡ to → AreNumbersBounded before after
+bounded_renamed before after from to s moved kept sin sis m bound k l = elim (ℕ_discrete (slice_index before k) from) [
+  | yes p ↦ (let e = moved k l p in let b = bound s sin in omega arith)
+  | no p ↦ (let e = kept k p in let b = bound k l in omega arith)
+]
+
+pub bounded_more : (before middle after : List ℕ) → length middle ≡ length before → AreNumbersBounded before middle → AreNumbersBounded middle after → AreNumbersBounded before after
+bounded_more before middle after long first second m bound k l = second m (λ i h. first m bound i (omega arith)) k (omega arith)
+
+pub bounded_none : (classes : List ℕ) → AreNumbersBounded classes classes
+bounded_none classes m bound k l = bound k l

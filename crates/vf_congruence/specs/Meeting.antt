@@ -18,6 +18,10 @@ PartsAreTogether classes xs ys = (length xs ≡ length ys) × ((i : ℕ) → i <
 abbrev pub StayTogether : List ℕ → List ℕ → Type 0
 StayTogether before after = (x y : ℕ) → AreTogether before x y → AreTogether after x y
 
+-- what was above the number of each class still is
+abbrev pub AreNumbersBounded : List ℕ → List ℕ → Type 0
+AreNumbersBounded before after = (m : ℕ) → ((k : ℕ) → k < length before → slice_index before k < m) → (k : ℕ) → k < length before → slice_index after k < m
+
 -- two terms that stand at one place of two lists
 pub record IsPaired (xs ys : List ℕ) (a b : ℕ) : Type 0 where
   pub place : ℕ
@@ -45,6 +49,16 @@ pub record IsSettledAt (nodes : List Node) (classes : List ℕ) (a b : ℕ) : Ty
 -- at no two terms anything is left to join
 abbrev pub IsSettled : List Node → List ℕ → Type 0
 IsSettled nodes classes = (a b : ℕ) → a < length classes → b < length classes → IsSettledAt nodes classes a b
+
+-- a term is in the class in which it was
+pub record IsStill (before classes : List ℕ) (x : ℕ) : Type 0 where
+  pub within : x < length before
+  pub same : slice_index before x ≡ slice_index classes x
+
+-- a term and its parts are in the classes in which they were
+pub record IsStillAt (nodes : List Node) (before classes : List ℕ) (a : ℕ) : Type 0 where
+  pub own : IsStill before classes a
+  pub parts : (m : Node) → slice_get nodes a ≡ Some m → (i : ℕ) → i < length m.parts.items → IsStill before classes (slice_index m.parts.items i)
 
 -- the classes are those of the least congruence of the merged pairs
 pub record IsLeast (nodes : List Node) (merged : List (ℕ × ℕ)) (classes : List ℕ) : Type 0 where

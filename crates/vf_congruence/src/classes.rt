@@ -95,7 +95,7 @@ impl Classes {
         ensures { IfOk result (λ c. (c.nodes ≡ nodes.items) × (c.merged ≡ [])) }
     {
         let mut classes = own_classes(alloc, nodes.len() as u32)?;
-        settle(&nodes, &mut classes);
+        settle(&nodes, &[], &mut classes);
         Ok(Classes {
             nodes,
             merged: Vec::new(alloc),
@@ -112,8 +112,16 @@ impl Classes {
         ensures unchanged { OnErr result (self.new.merged ≡ self.old.merged) }
         ensures weight { OnOk result ((Congruent self.old.nodes (WereMerged self.old.merged) a b → ⊥) → self.new.weight < self.old.weight) }
     {
-        self.merged.push((a, b))?;
-        join_and_settle(&self.nodes, &mut self.classes, a, b);
+        let pair = (a, b);
+        let one = self.classes[a as usize];
+        let other = self.classes[b as usize];
+        if one == other {
+            self.merged.push(pair)?;
+            return Ok(());
+        }
+        let settled = Vec::from_slice(*self.classes.allocator(), &self.classes)?;
+        self.merged.push(pair)?;
+        join_and_settle(&self.nodes, &settled, &mut self.classes, a, b);
         Ok(())
     }
 

@@ -1,8 +1,8 @@
 //! Classes of equal terms, closed under congruence and injectivity of constructors.
 //!
 //! A list gives each term the number of its class. Joining two classes renames one to the number of
-//! the other, the smaller of the two, so that the sum of the numbers falls; pairs of terms are gone
-//! over until nothing is left to join.
+//! the other, the smaller of the two, so that the sum of the numbers falls. What that leaves to join is
+//! looked for at the terms that moved and those that have a part that did, until nothing is left.
 #![tactic(auto)]
 
 mod classes;

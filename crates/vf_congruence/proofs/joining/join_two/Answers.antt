@@ -1,7 +1,7 @@
 use Rattle.std.proofs.Common.{◌∷◌, [], refl, arith, inl, inr}
 use Rattle.vf_congruence.specs.Congruence.{based, congruent_back}
 use Rattle.vf_congruence.specs.Meeting.{AreTogetherOrPaired}
-use Rattle.vf_congruence.proofs.Meeting.{renamed, renamed_falls, paired_none}
+use Rattle.vf_congruence.proofs.Meeting.{renamed, renamed_falls, paired_none, bounded_renamed}
 use Rattle.vf_congruence.proofs.joining.join_two.Goals as goal
 
 pub returns-then-one-other-clause-only : goal.returns-then-one-other-clause-only
@@ -26,3 +26,9 @@ returns-else-one-other-2-clause-only c =
 pub returns-else-one-other-2-clause-falls : goal.returns-else-one-other-2-clause-falls
 returns-else-one-other-2-clause-falls c =
     λ t. renamed_falls _ _ _ _ c.args.a c.rename_class-else-one-other-2.auto.classes c.rename_class-else-one-other-2.ensures.moved c.rename_class-else-one-other-2.ensures.kept c.requires.left refl (omega arith)
+
+pub returns-then-one-other-2-clause-bounded : goal.returns-then-one-other-2-clause-bounded
+returns-then-one-other-2-clause-bounded c = bounded_renamed _ _ _ _ c.args.a c.rename_class.ensures.moved c.rename_class.ensures.kept c.requires.left refl
+
+pub returns-else-one-other-2-clause-bounded : goal.returns-else-one-other-2-clause-bounded
+returns-else-one-other-2-clause-bounded c = bounded_renamed _ _ _ _ c.args.b c.rename_class-else-one-other-2.ensures.moved c.rename_class-else-one-other-2.ensures.kept c.requires.right refl
