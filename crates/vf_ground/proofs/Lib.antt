@@ -1,3 +1,4 @@
 pub mod Closing
 pub mod Gained
 pub mod Verdicts
+pub mod Exchanging

@@ -1,6 +1,6 @@
 //! The exchange of equalities and bounds.
 
-ghost use Rattle.std.specs.Prelude.{◌≡◌, ◌<◌, ◌+◌, ◌↔◌, ℕ, pos, length, IsTrue, IfOk, MatchOption};
+ghost use Rattle.std.specs.Prelude.{◌≡◌, ◌<◌, ◌+◌, ◌↔◌, ℕ, pos, length, IsTrue, IsFalse, IfOk, MatchOption};
 ghost use Rattle.vf_table.specs.Tables.{IsInteger};
 ghost use Rattle.vf_arith.specs.Paths.{HasNegativeCycle};
 ghost use Rattle.vf_ground.specs.Held.{IsNear, Agree, AllAgree, Lacks, IsLacking, HaveGrown};
@@ -155,6 +155,94 @@ fn supply(
     }
 }
 
+/// Gives classes and bounds what they lack at two terms, and tells whether they lacked anything.
+fn exchange_at(
+    alloc: Global,
+    classes: &mut Classes,
+    bounds: &mut Bounds,
+    x: u32,
+    y: u32,
+) -> Result<bool, Memory>
+    requires fine { HasNegativeCycle bounds.old.edges → ⊥ }
+    requires size { bounds.old.size ≡ length classes.old.nodes }
+    requires left { x < length classes.old.nodes }
+    requires right { y < length classes.old.nodes }
+    ensures nodes { classes.new.nodes ≡ classes.old.nodes }
+    ensures size { bounds.new.size ≡ bounds.old.size }
+    ensures grown { IfOk result (λ _. HaveGrown classes.old.nodes classes.old.merged bounds.old.edges classes.new.merged bounds.new.edges) }
+    ensures agree { IfOk result (λ given. IsFalse given → Agree classes.old.nodes classes.old.merged bounds.old.edges x y) }
+    ensures same { IfOk result (λ given. IsFalse given → (classes.new ≡ classes.old) × (bounds.new ≡ bounds.old)) }
+    ensures falls { IfOk result (λ given. IsTrue given → (HasNegativeCycle bounds.new.edges → ⊥) → classes.new.weight + bounds.new.weight < classes.old.weight + bounds.old.weight) }
+{
+    let lack = lack_at(classes, bounds, x, y);
+    match lack {
+        Lack::Nothing => Ok(false),
+        _ => {
+            let task = Task {
+                left: x,
+                right: y,
+                lack,
+            };
+            supply(alloc, classes, bounds, task)?;
+            Ok(true)
+        }
+    }
+}
+
+/// Gives classes and bounds what they lack at a term and each other one, up to a negative cycle, and
+/// tells whether they lacked anything.
+fn exchange_beside(
+    alloc: Global,
+    classes: &mut Classes,
+    bounds: &mut Bounds,
+    x: u32,
+) -> Result<bool, Memory>
+    requires fine { HasNegativeCycle bounds.old.edges → ⊥ }
+    requires size { bounds.old.size ≡ length classes.old.nodes }
+    requires left { x < length classes.old.nodes }
+    ensures nodes { classes.new.nodes ≡ classes.old.nodes }
+    ensures size { bounds.new.size ≡ bounds.old.size }
+    ensures grown { IfOk result (λ _. HaveGrown classes.old.nodes classes.old.merged bounds.old.edges classes.new.merged bounds.new.edges) }
+    ensures agree { IfOk result (λ given. IsFalse given → (y : ℕ) → y < length classes.old.nodes → Agree classes.old.nodes classes.old.merged bounds.old.edges x y) }
+    ensures same { IfOk result (λ given. IsFalse given → (classes.new ≡ classes.old) × (bounds.new ≡ bounds.old)) }
+    ensures falls { IfOk result (λ given. IsTrue given → (HasNegativeCycle bounds.new.edges → ⊥) → classes.new.weight + bounds.new.weight < classes.old.weight + bounds.old.weight) }
+{
+    let mut given = false;
+    for y in 0..classes.size() {
+        if exchange_at(alloc, classes, bounds, x, y)? {
+            given = true;
+            if bounds.conflict() {
+                return Ok(true);
+            }
+        }
+    }
+    Ok(given)
+}
+
+/// Goes once over each two terms and gives classes and bounds what they lack there, up to a negative
+/// cycle, and tells whether they lacked anything.
+fn exchange_once(alloc: Global, classes: &mut Classes, bounds: &mut Bounds) -> Result<bool, Memory>
+    requires fine { HasNegativeCycle bounds.old.edges → ⊥ }
+    requires size { bounds.old.size ≡ length classes.old.nodes }
+    ensures nodes { classes.new.nodes ≡ classes.old.nodes }
+    ensures size { bounds.new.size ≡ bounds.old.size }
+    ensures grown { IfOk result (λ _. HaveGrown classes.old.nodes classes.old.merged bounds.old.edges classes.new.merged bounds.new.edges) }
+    ensures agree { IfOk result (λ given. IsFalse given → AllAgree classes.old.nodes classes.old.merged bounds.old.edges) }
+    ensures same { IfOk result (λ given. IsFalse given → (classes.new ≡ classes.old) × (bounds.new ≡ bounds.old)) }
+    ensures falls { IfOk result (λ given. IsTrue given → (HasNegativeCycle bounds.new.edges → ⊥) → classes.new.weight + bounds.new.weight < classes.old.weight + bounds.old.weight) }
+{
+    let mut given = false;
+    for x in 0..classes.size() {
+        if exchange_beside(alloc, classes, bounds, x)? {
+            given = true;
+            if bounds.conflict() {
+                return Ok(true);
+            }
+        }
+    }
+    Ok(given)
+}
+
 /// Brings classes and bounds to agree, or to a negative cycle.
 pub fn exchange(alloc: Global, classes: &mut Classes, bounds: &mut Bounds) -> Result<(), Memory>
     requires size { bounds.old.size ≡ length classes.old.nodes }
@@ -166,8 +254,7 @@ pub fn exchange(alloc: Global, classes: &mut Classes, bounds: &mut Bounds) -> Re
     if bounds.conflict() {
         return Ok(());
     }
-    while let Some(task) = find(classes, bounds) {
-        supply(alloc, classes, bounds, task)?;
+    while exchange_once(alloc, classes, bounds)? {
         if bounds.conflict() {
             return Ok(());
         }

@@ -1,11 +1,7 @@
-use Rattle.std.proofs.Common.{subst, List}
-use Rattle.vf_table.specs.declared.node.Node.{Node}
-use Rattle.vf_ground.specs.Held.{HaveGrown}
-use Rattle.vf_ground.proofs.Closing.{grown_join}
+use Rattle.vf_ground.proofs.Exchanging.{grown_more}
 use Rattle.vf_ground.proofs.exchange.exchange.Goals as goal
 
 pub returns-then-conflict-2-clause-grown : goal.returns-then-conflict-2-clause-grown
 returns-then-conflict-2-clause-grown c =
-    grown_join c.args.classes.now.nodes c.args.classes.now.merged c.args.bounds.now.edges c.loop-task.classes.merged c.loop-task.bounds.edges c.supply.new.classes.merged c.supply.new.bounds.edges
-    c.loop-task.invariant.grown
-    (subst (λ (l : List Node). HaveGrown l c.loop-task.classes.merged c.loop-task.bounds.edges c.supply.new.classes.merged c.supply.new.bounds.edges) c.loop-task.invariant.nodes c.in_ok-supply.ensures.grown)
+    grown_more c.args.classes.now c.loop-bounds.classes c.exchange_once.new.classes c.args.bounds.now c.loop-bounds.bounds c.exchange_once.new.bounds
+    c.loop-bounds.invariant.nodes c.loop-bounds.invariant.grown c.in_ok-exchange_once.ensures.grown
