@@ -20,3 +20,6 @@ pub use expr::{lowered, passed, tested, valued};
 pub use operand::{Access, Left, Outcome};
 pub use setting::{Kind, Setting};
 pub use test::Test;
+
+#[cfg(test)]
+mod tests;
