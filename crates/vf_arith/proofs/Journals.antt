@@ -1,11 +1,13 @@
 -- Distances that are kept aside, and matrices that are written to one place at a time.
-use Rattle.std.proofs.Common.{◌≡◌, ℕ, ◌+◌, ◌*◌, ◌/◌, ◌%◌, ◌<◌, ◌⊎◌, inl, inr, List, length, get_or, set, get_or-set_other, get_or-set_same, Option, None, refl, sym, ◌∙◌, ap, subst, arith, Bool, true, false, eqb}
-use Rattle.std.specs.Prelude.{ℤ, Contains, slice_index_or}
+use Rattle.std.proofs.Common.{◌≡◌, ℕ, ◌+◌, ◌*◌, ◌/◌, ◌%◌, ◌<◌, ◌⊎◌, inl, inr, List, length, get_or, set, get_or-set_other, get_or-set_same, Option, Some, None, refl, sym, ◌∙◌, ap, subst, arith, Bool, true, false, eqb}
+use Rattle.std.specs.Prelude.{ℤ, pos, ◌+ℤ◌, ◌≤ℤ◌, Contains, slice_index_or}
 use Rattle.std.proofs.lemmas.Nat.{div-mul-add, mod-mul-add, mul-add-lt}
 use Rattle.std.proofs.lemmas.List.{get_or_default}
 use Rattle.std.proofs.lemmas.Bool.{eqb-true, eqb-false, cases_lt}
 use Rattle.vf_arith.specs.declared.journal.Saved.{Saved}
-use Rattle.vf_arith.specs.Matrices.{distance, entry, lesser, over_edge}
+use Rattle.std.proofs.lemmas.Int.{ints, clamps}
+use Rattle.std.specs.Int.{int_min}
+use Rattle.vf_arith.specs.Matrices.{IsUnder, ObeyTriangles, distance, entry, lesser, over_edge}
 use Rattle.vf_arith.specs.Histories.{IsSaved, IsShortened}
 
 -- what a list has at a place is an element of it
@@ -91,3 +93,41 @@ is_shortened matrix before most after x y way s inx iny is ex ey old shorter = r
 
     ways : over_edge (entry before s.x) most (entry after s.y) ≡ over_edge (entry before x) most (entry after y)
     ways = ap (λ k. over_edge (entry before k) most (entry after s.y)) ex ∙ ap (λ k. over_edge (entry before x) most (entry after k)) ey
+
+-- ---- points that a way over an edge brings nothing
+
+lesser_none : (o : Option ℤ) → lesser o None ≡ o
+lesser_none None = refl
+lesser_none (Some v) = refl
+
+-- a distance that is at most a way's sum is the lesser
+lesser_under : (o : Option ℤ) (s : ℤ) → IsUnder o s → lesser o (Some s) ≡ o
+lesser_under None s h = absurd h
+lesser_under (Some v) s h = ap Some (omega (arith, ints, clamps))
+
+-- and the other way round
+under_lesser : (o : Option ℤ) (s : ℤ) → lesser o (Some s) ≡ o → IsUnder o s
+under_lesser None s h = cc
+under_lesser (Some v) s h = let e : int_min v s ≡ v = cc in omega (arith, ints, clamps)
+
+-- where the way over an edge does not shorten the distance to its end, it shortens none
+pub no_shorter : (size : ℕ) (d : ℕ → ℕ → Option ℤ) (b : Option ℤ) (most : ℤ) (x to y : ℕ) (o : Option ℤ) → ObeyTriangles size d → x < size → to < size → y < size → o ≡ d to y → lesser (d x to) (over_edge b most (Some (pos 0))) ≡ d x to → lesser (d x y) (over_edge b most o) ≡ d x y
+no_shorter size d None most x to y o triangles inx int iny is h = lesser_none (d x y)
+no_shorter size d (Some v) most x to y None triangles inx int iny is h = lesser_none (d x y)
+no_shorter size d (Some v) most x to y (Some w) triangles inx int iny is h =
+    let first : IsUnder (d x to) (v +ℤ most) = subst (IsUnder (d x to)) (let e : (v +ℤ most +ℤ pos 0) ≡ v +ℤ most = omega (arith, ints) in e) (under_lesser (d x to) (v +ℤ most +ℤ pos 0) h) in
+    let last : IsUnder (d to y) w = subst (λ o. IsUnder o w) is (let l : w ≤ℤ w = omega (arith, ints) in l) in
+    lesser_under (d x y) (v +ℤ most +ℤ w) (triangles x to y (v +ℤ most) w inx int iny first last)
+
+-- where it does not shorten the distance from its beginning, it shortens none either
+pub no_shorter_end : (size : ℕ) (d : ℕ → ℕ → Option ℤ) (b : Option ℤ) (most : ℤ) (x from y : ℕ) (o : Option ℤ) → ObeyTriangles size d → x < size → from < size → y < size → b ≡ d x from → lesser (d from y) (over_edge (Some (pos 0)) most o) ≡ d from y → lesser (d x y) (over_edge b most o) ≡ d x y
+no_shorter_end size d None most x from y o triangles inx inf iny is h = lesser_none (d x y)
+no_shorter_end size d (Some v) most x from y None triangles inx inf iny is h = lesser_none (d x y)
+no_shorter_end size d (Some v) most x from y (Some w) triangles inx inf iny is h =
+    let first : IsUnder (d x from) v = subst (λ o. IsUnder o v) is (let l : v ≤ℤ v = omega (arith, ints) in l) in
+    let last : IsUnder (d from y) (most +ℤ w) = subst (IsUnder (d from y)) (let e : (pos 0 +ℤ most +ℤ w) ≡ most +ℤ w = omega (arith, ints) in e) (under_lesser (d from y) (pos 0 +ℤ most +ℤ w) h) in
+    lesser_under (d x y) (v +ℤ most +ℤ w) (subst (IsUnder (d x y)) (let e : (v +ℤ (most +ℤ w)) ≡ v +ℤ most +ℤ w = omega (arith, ints) in e) (triangles x from y v (most +ℤ w) inx inf iny first last))
+
+-- what a list of numbers has at a place is an element of it
+pub number_at : (ends : List ℕ) (i : ℕ) (d : ℕ) → i < length ends → Contains ends (slice_index_or ends i d)
+number_at ends i d l = (i, l, get_or_default ends i (get_or ends i d) d l)

@@ -37,6 +37,10 @@ pub record AreDistances (size : ℕ) (edges : List Edge) (d : ℕ → ℕ → Op
   pub edge : (e : Edge) → Contains edges e → IsUnder (d e.from e.to) e.most
   pub triangle : (x y z : ℕ) (a b : ℤ) → x < size → y < size → z < size → IsUnder (d x y) a → IsUnder (d y z) b → IsUnder (d x z) (a +ℤ b)
 
+-- no distance of two points below size is above the way over a third
+abbrev pub ObeyTriangles : ℕ → (ℕ → ℕ → Option ℤ) → Type 0
+ObeyTriangles size d = (x y z : ℕ) (a b : ℤ) → x < size → y < size → z < size → IsUnder (d x y) a → IsUnder (d y z) b → IsUnder (d x z) (a +ℤ b)
+
 -- a distance is above 0
 abbrev pub is_above : Option ℤ → Bool
 is_above None = true

@@ -188,7 +188,15 @@ impl Bounds {
             self.cyclic = true;
             return Ok(());
         }
-        let saved = shortened(alloc, &self.matrix, &before, edge.most, &after)?;
+        let saved = shortened(
+            alloc,
+            &self.matrix,
+            edge.from,
+            &before,
+            edge.most,
+            edge.to,
+            &after,
+        )?;
         shorten(&mut self.matrix, &saved, &before, edge.most, &after);
         self.edges.push_reserved(edge);
         self.layers.push_reserved(Layer {

@@ -49,11 +49,11 @@ abbrev pub behind : List ℕ → Option (List ℕ) → Option (List ℕ)
 behind ns None = None
 behind ns (Some ms) = Some (ns ++ ms)
 
-behind_one : (ns : List ℕ) (n : ℕ) (r : Option (List ℕ)) → behind ns (with_number (Some n) r) ≡ behind (ns ++ n ∷ []) r
+pub behind_one : (ns : List ℕ) (n : ℕ) (r : Option (List ℕ)) → behind ns (with_number (Some n) r) ≡ behind (ns ++ n ∷ []) r
 behind_one ns n None = refl
 behind_one ns n (Some ms) = ap Some (sym (append_assoc ns (n ∷ []) ms))
 
-behind_none : (ns : List ℕ) → ns ++ [] ≡ ns
+pub behind_none : (ns : List ℕ) → ns ++ [] ≡ ns
 behind_none [] = refl
 behind_none (n ∷ ns) = ap (λ ms. n ∷ ms) (behind_none ns)
 

@@ -80,7 +80,7 @@ pub switch_fails : {s : Scope} {c : Context} {k k' : Known} {x : GhostExprTree} 
 switch_fails e i q = record { answers = failing _ _ _ e (λ r h. switched.switched h) i.answers q }
 
 -- the datatype of what is switched over
-over : {u : Sort} {o m : Option ℕ} (k : Known) (t : Sort) → u ≡ resolved k t → o ≡ datatype_in u → o ≡ m → datatype_in (resolved k t) ≡ m
+pub over : {u : Sort} {o m : Option ℕ} (k : Known) (t : Sort) → u ≡ resolved k t → o ≡ datatype_in u → o ≡ m → datatype_in (resolved k t) ≡ m
 over k t v w y = ap datatype_in (sym v) ∙ sym w ∙ y
 
 pub switch_plain : {s : Scope} {c : Context} {k k₁ k' : Known} {x : GhostExprTree} {cs : AssertionCaseTrees} {t u : Sort} {o : Option ℕ} {p : Place} {e : RuleFault} → IsSorted s c k x (Ok t) k₁ → u ≡ resolved k₁ t → o ≡ datatype_in u → o ≡ None → p ≡ place_of x → e ≡ faults.Refused (refused rules.Typing p) → IsSwitch s c k x cs (Err e) k'
@@ -111,7 +111,7 @@ switch_right k₁ j n d first w v f q e a =
     (subst (λ (m : ℕ). IsBelow m (instance first n (datatype_sort d n))) at (instance_below first first n (omega arith) (datatype_sort d n) (parameters_below first n)))
 
 -- the datatype at unknown sorts that is wanted
-wanting_is : (s : Scope) (k₁ : Known) (n d first : ℕ) (w v : Sort) → n ≡ parameters_of s d → first ≡ length k₁ → w ≡ datatype_sort d n → v ≡ instance first n w → v ≡ unknown_datatype s (length k₁) d
+pub wanting_is : (s : Scope) (k₁ : Known) (n d first : ℕ) (w v : Sort) → n ≡ parameters_of s d → first ≡ length k₁ → w ≡ datatype_sort d n → v ≡ instance first n w → v ≡ unknown_datatype s (length k₁) d
 wanting_is s k₁ n d first w v p f e a = a ∙ ap (instance first n) e ∙ ap (λ (m : ℕ). instance first m (datatype_sort d m)) p ∙ ap (λ (m : ℕ). instance m (parameters_of s d) (datatype_sort d (parameters_of s d))) f
 
 pub switch_apart : {s : Scope} {c : Context} {k k₁ j k' : Known} {x : GhostExprTree} {cs : AssertionCaseTrees} {t u w v : Sort} {o : Option ℕ} {d n first : ℕ} {p : Place} {y : Bool} {res : Result Switched RuleFault} (e : RuleFault) → IsSorted s c k x (Ok t) k₁ → u ≡ resolved k₁ t → o ≡ datatype_in u → o ≡ Some d → y ≡ are_cases s d cs → y ≡ true → n ≡ parameters_of s d → w ≡ datatype_sort d n → first ≡ length k₁ → j ≡ with_fresh k₁ n → v ≡ instance first n w → p ≡ place_of x → IsEquated {A = Unit {0}} j t v p (Err e) k' → res ≡ Err e → IsSwitch s c k x cs res k'

@@ -74,14 +74,14 @@ pub test_fails : {c : Context} {s s' : Scope} {k k' : Known} {p : Place} {d : Gh
 test_fails {c = c} {s = s} {k = k} {d = d} e w i q = record { answers = failing _ _ _ e (λ r f. refuses.PartFails.test (subst (λ (t : Sort). Fails s c k t (place_of d) d r) w f)) i.answers q }
 
 -- the test of a conditional passes
-tested : {c : Context} {s : Scope} {k k₁ : Known} {d : GhostExprTree} {w : Sort} → w ≡ bool_sort → IsChecked {A = Unit {0}} s c k w (place_of d) d (Ok tt) k₁ → Passes s c k bool_sort (place_of d) d k₁
+pub tested : {c : Context} {s : Scope} {k k₁ : Known} {d : GhostExprTree} {w : Sort} → w ≡ bool_sort → IsChecked {A = Unit {0}} s c k w (place_of d) d (Ok tt) k₁ → Passes s c k bool_sort (place_of d) d k₁
 tested {c = c} {s = s} {k = k} {k₁ = k₁} {d = d} w i = subst (λ (t : Sort). Passes s c k t (place_of d) d k₁) w i.answers.1
 
 pub first_fails : {c : Context} {s s' : Scope} {k k₁ k' : Known} {p : Place} {d : GhostExprTree} {xs ys : PartTrees} {w : Sort} {res : Result (Unit {0}) RuleFault} (e : RuleFault) → w ≡ bool_sort → IsChecked {A = Unit {0}} s c k w (place_of d) d (Ok tt) k₁ → IsBranch {A = Unit {0}} c s k₁ xs (Err e) s' k' → res ≡ Err e → IsPart c s k (tree.conditional p d xs ys) res s' k'
 first_fails e w i j q = record { answers = failing _ _ _ e (λ r f. refuses.PartFails.first_branch (tested w i) f) j.answers q }
 
 -- a scope whose locals declared since are gone
-gone : {m : ℕ} {l : Locals} (s s₁ : Scope) → m ≡ count s → l ≡ first_locals s₁.locals m → record s₁ { locals = l } ≡ left (count s) s₁
+pub gone : {m : ℕ} {l : Locals} (s s₁ : Scope) → m ≡ count s → l ≡ first_locals s₁.locals m → record s₁ { locals = l } ≡ left (count s) s₁
 gone s s₁ w q = ap (λ (l : Locals). record s₁ { locals = l }) (q ∙ ap (first_locals s₁.locals) w)
 
 pub branch_fails : {c : Context} {s s' : Scope} {k k' : Known} {xs : PartTrees} {res : Result (Unit {0}) RuleFault} (e : RuleFault) → IsAssertion {A = Unit {0}} c s k xs (Err e) s' k' → res ≡ Err e → IsBranch c s k xs res s' k'
@@ -118,14 +118,14 @@ pub case_memory : {c : Context} {s s' : Scope} {first n : ℕ} {k k' : Known} {x
 case_memory q = record { answers = wanting _ _ q }
 
 -- the sorts of the names of a case
-sorts_are : {us ts : List Sort} (s : Scope) (first n : ℕ) (x : CasePattern) → us ≡ case_arguments s x → ts ≡ map (instance first n) us → ts ≡ case_sorts s first n x
+pub sorts_are : {us ts : List Sort} (s : Scope) (first n : ℕ) (x : CasePattern) → us ≡ case_arguments s x → ts ≡ map (instance first n) us → ts ≡ case_sorts s first n x
 sorts_are s first n x a t = t ∙ ap (map (instance first n)) a
 
 pub names_refused : {c : Context} {s s' : Scope} {first n : ℕ} {k k' : Known} {us ts : List Sort} {g : Place} {p : Place} {x : CasePattern} {xs : PartTrees} {res : Result (Unit {0}) RuleFault} (e : RuleFault) → us ≡ case_arguments s x → ts ≡ map (instance first n) us → g ≡ x.constructor.place → IsCaseBound s (names_or_none x.names) ts g (Err e) → res ≡ Err e → IsCase c s first n k (tree.assertion_case p x xs) res s' k'
 names_refused {s = s} {first = first} {n = n} {ts = ts} {x = x} e a t g i q = record { answers = failing _ _ _ e (λ r f. refuses.CaseFails.name_ (subst (λ (us : List Sort). NamesFail s (names_or_none x.names) us x.constructor.place r) (sorts_are s first n x a t) (subst (λ (p : Place). NamesFail s (names_or_none x.names) ts p r) g f))) i.answers q }
 
 -- the names of a case are bound
-case_named : {us ts : List Sort} {g : Place} {b : Bound} (s : Scope) (first n : ℕ) (x : CasePattern) → us ≡ case_arguments s x → ts ≡ map (instance first n) us → IsCaseBound s (names_or_none x.names) ts g (Ok b) → NamesBind s no_names (names_or_none x.names) (case_sorts s first n x) b
+pub case_named : {us ts : List Sort} {g : Place} {b : Bound} (s : Scope) (first n : ℕ) (x : CasePattern) → us ≡ case_arguments s x → ts ≡ map (instance first n) us → IsCaseBound s (names_or_none x.names) ts g (Ok b) → NamesBind s no_names (names_or_none x.names) (case_sorts s first n x) b
 case_named {b = b} s first n x a t i = subst (λ (us : List Sort). NamesBind s no_names (names_or_none x.names) us b) (sorts_are s first n x a t) i.answers
 
 pub body_refused : {c : Context} {s s₁ s' : Scope} {first n : ℕ} {k k' : Known} {us ts : List Sort} {g : Place} {b : Bound} {p : Place} {x : CasePattern} {xs : PartTrees} {res : Result (Unit {0}) RuleFault} (e : RuleFault) → us ≡ case_arguments s x → ts ≡ map (instance first n) us → IsCaseBound s (names_or_none x.names) ts g (Ok b) → s₁ ≡ with_names s b → IsAssertion {A = Unit {0}} c s₁ k xs (Err e) s' k' → res ≡ Err e → IsCase c s first n k (tree.assertion_case p x xs) res s' k'

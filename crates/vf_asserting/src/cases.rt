@@ -63,7 +63,7 @@ fn takes(datatype: usize, count: usize, declaration: Option<&GhostDeclaration>) 
 }
 
 /// The constructor of a datatype that a case is for, by its number.
-fn case_number(scope: &Scope, datatype: usize, pattern: &CasePattern) -> Option<usize>
+pub fn case_number(scope: &Scope, datatype: usize, pattern: &CasePattern) -> Option<usize>
     ensures { result ≡ cases.case_number scope.now datatype pattern.now }
 {
     let count = name_count(&pattern.names);
@@ -107,7 +107,7 @@ fn case_numbers(
 }
 
 /// How many constructors a datatype has.
-fn constructor_count(scope: &Scope, datatype: usize) -> usize
+pub fn constructor_count(scope: &Scope, datatype: usize) -> usize
     ensures { result ≡ cases.constructor_count (datatype_of scope.now datatype) }
 {
     match scope.datatype(datatype) {
@@ -117,7 +117,7 @@ fn constructor_count(scope: &Scope, datatype: usize) -> usize
 }
 
 /// Whether there are so many numbers, none of them twice.
-fn are_all(count: usize, numbers: &Option<NumberList>) -> bool
+pub fn are_all(count: usize, numbers: &Option<NumberList>) -> bool
     ensures { result ≡ cases.are_all count numbers.now }
 {
     match numbers {

@@ -7,8 +7,11 @@
 #![tactic(auto)]
 
 mod assertions;
-mod cases;
+pub mod cases;
 mod distinct;
-mod switches;
+pub mod switches;
 
 pub use assertions::{assertion_given, part_given};
+
+#[cfg(test)]
+mod tests;

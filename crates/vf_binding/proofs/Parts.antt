@@ -26,11 +26,11 @@ use Rattle.vf_binding.proofs.Steps.{failing, refusing, wanting}
 
 -- ---- pairs of parentheses
 -- what takes arguments alone
-alone : (t : ChunkSorts) → t.heads ≡ None → with_arguments t.arguments ≡ t
+pub alone : (t : ChunkSorts) → t.heads ≡ None → with_arguments t.arguments ≡ t
 alone t q = λ i. record { heads = sym q i; arguments = t.arguments }
 
 -- what takes two pairs
-both : (t : ChunkSorts) (hs : List Sort) → t.heads ≡ Some hs → with_heads hs t.arguments ≡ t
+pub both : (t : ChunkSorts) (hs : List Sort) → t.heads ≡ Some hs → with_heads hs t.arguments ≡ t
 both t hs q = λ i. record { heads = sym q i; arguments = t.arguments }
 
 pub arguments_below : (n : ℕ) (t : ChunkSorts) → IsTakenBelow n t → AreBelow n t.arguments
@@ -42,11 +42,11 @@ heads_below n t hs q b = (subst (chunks.AreHeadsBelow n) q b.0)
 pub arguments_below_then : {s : Scope} {c : Context} {k k₁ : Known} {hs : List Sort} {g : Place} {xs : List Pattern} (t : ChunkSorts) → IsTakenBelow (length k) t → IsHeadList {A = Unit {0}} s c k hs g xs (Ok tt) k₁ → AreBelow (length k₁) t.arguments
 arguments_below_then t b i = all_below_more _ _ i.answers.0 _ b.1
 
-none_is : {A : Type 0} (x : Option A) → is_some x ≡ false → x ≡ None
+pub none_is : {A : Type 0} (x : Option A) → is_some x ≡ false → x ≡ None
 none_is None h = refl
 none_is (Some a) h = absurd cc
 
-some_is : {A : Type 0} {T : Type 0} (x : Option A) → is_some x ≡ true → ((a : A) → x ≡ Some a → T) → T
+pub some_is : {A : Type 0} {T : Type 0} (x : Option A) → is_some x ≡ true → ((a : A) → x ≡ Some a → T) → T
 some_is None h f = absurd cc
 some_is (Some a) h f = f a refl
 

@@ -71,7 +71,7 @@ pub fn arguments_bound(
 
 /// The same of a chunk whose name takes something, behind its share.
 #[tactic(auto, using(crate::proofs::Parts::taken_stray, crate::proofs::Parts::taken_fails, crate::proofs::Parts::taken_binds))]
-fn taken_bound(
+pub fn taken_bound(
     alloc: Global,
     scope: &Scope,
     context: &Context,

@@ -15,6 +15,10 @@ mod shares;
 mod truths;
 
 pub use cells::cell_bound;
-pub use chunks::{arguments_bound, chunk_bound};
+pub use chunks::{arguments_bound, chunk_bound, taken_bound};
+pub use heads::head_list_checked;
 pub use patterns::pattern_bound;
 pub use shares::share_bound;
+
+#[cfg(test)]
+mod tests;

@@ -49,8 +49,10 @@ fn own_classes(alloc: Global, count: u32) -> Result<Vec<u32>, Memory>
     Ok(classes)
 }
 
-/// Derives that two terms are equal that are so by what was merged.
-fn derive(
+/// Derives that two terms are equal that are so by what was merged, and answers the step. The log is
+/// over the same terms, and for each pair that was merged it has a step that says that the two are
+/// equal.
+pub fn derive_equality(
     alloc: Global,
     log: &mut Log,
     nodes: &[Node],
@@ -169,7 +171,7 @@ impl Classes {
         if !self.same(a, b) {
             return Ok(None);
         }
-        let step = derive(alloc, log, &self.nodes, &self.merged, reasons, a, b)?;
+        let step = derive_equality(alloc, log, &self.nodes, &self.merged, reasons, a, b)?;
         Ok(Some(step))
     }
 }

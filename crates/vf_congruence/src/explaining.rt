@@ -3,7 +3,7 @@
 //! Each term gets a label, itself at first, and a step that says that the two are equal. What was
 //! merged and what that leaves to join is joined, with steps, until two terms have one label.
 
-ghost use Rattle.std.specs.Prelude.{◌≡◌, ℕ, ◌<◌, ◌^◌, length, sum, All, IsTrue, IsFalse, IfOk, MatchOption, slice_index, slice_set};
+ghost use Rattle.std.specs.Prelude.{◌≡◌, ℕ, ◌<◌, ◌^◌, length, sum, All, IsTrue, IsFalse, IfOk, IfSome, MatchOption, slice_index, slice_set};
 ghost use Rattle.vf_table.specs.Tables.{PartsAreBelow};
 ghost use Rattle.vf_refute.specs.Refutations.{HasDerived, ArePairwiseEqual};
 ghost use Rattle.vf_log.specs.Copies.{HaveSameTerms};
@@ -199,13 +199,33 @@ fn gap_beside(nodes: &[Node], labels: &[u32], a: u32) -> Option<Task>
     None
 }
 
-/// The first two terms that leave something to join.
-fn find_gap(nodes: &[Node], labels: &[u32]) -> Option<Task>
+/// Two terms that leave something to join, the first of them not before a term, if there are any.
+fn gap_from(nodes: &[Node], labels: &[u32], from: u32) -> Option<Task>
+    requires long { length nodes.now ≡ length labels.now }
+    requires parts { PartsAreBelow nodes.now (length labels.now) }
+    requires few { length nodes.now < 2 ^ 32 }
+    ensures { IfSome result (λ t. (t.left < length labels.now) × (t.right < length labels.now) × IsGap nodes.now labels.now t.left t.right t.gap) }
+{
+    for a in from..nodes.len() as u32 {
+        match gap_beside(nodes, labels, a) {
+            Some(task) => return Some(task),
+            None => {}
+        }
+    }
+    None
+}
+
+/// Two terms that leave something to join, which are looked for from a term on before they are looked
+/// for among all.
+fn find_gap(nodes: &[Node], labels: &[u32], from: u32) -> Option<Task>
     requires long { length nodes.now ≡ length labels.now }
     requires parts { PartsAreBelow nodes.now (length labels.now) }
     requires few { length nodes.now < 2 ^ 32 }
     ensures { MatchOption result (IsSettled nodes.now labels.now) (λ t. (t.left < length labels.now) × (t.right < length labels.now) × IsGap nodes.now labels.now t.left t.right t.gap) }
 {
+    if let Some(task) = gap_from(nodes, labels, from) {
+        return Some(task);
+    }
     for a in 0..nodes.len() as u32 {
         match gap_beside(nodes, labels, a) {
             Some(task) => return Some(task),
@@ -371,7 +391,8 @@ fn parted_pair(labels: &[u32], merged: &[(u32, u32)]) -> Option<usize>
     None
 }
 
-/// Joins what is left to join at one place, and tells whether there was anything.
+/// Joins what is left to join at one place, and tells whether there was anything. Places are looked for
+/// from a term on, which comes to be that of the place.
 fn join_next(
     alloc: Global,
     log: &mut Log,
@@ -380,6 +401,7 @@ fn join_next(
     steps: &mut [u32],
     merged: &[(u32, u32)],
     reasons: &[u32],
+    from: &mut u32,
 ) -> Result<bool, Memory>
     requires explained { AreExplained log.old.known labels.old steps.old }
     requires nodes { HaveSameTerms nodes.now log.old.nodes }
@@ -401,8 +423,9 @@ fn join_next(
         }
         None => {}
     }
-    match find_gap(nodes, labels) {
+    match find_gap(nodes, labels, *from) {
         Some(task) => {
+            *from = task.left;
             join_gap(alloc, log, nodes, labels, steps, task)?;
             Ok(true)
         }
@@ -436,8 +459,9 @@ fn join_until(
     ensures explained { IfOk result (λ _. AreExplained log.new.known labels.new steps.new) }
     ensures one { IfOk result (λ _. slice_index labels.new a ≡ slice_index labels.new b) }
 {
+    let mut from = 0;
     while labels[a as usize] != labels[b as usize] {
-        if !join_next(alloc, log, nodes, labels, steps, merged, reasons)? {
+        if !join_next(alloc, log, nodes, labels, steps, merged, reasons, &mut from)? {
             unreachable!();
         }
     }

@@ -11,4 +11,5 @@ mod joining;
 #[cfg(test)]
 mod tests;
 
-pub use classes::Classes;
+pub use classes::{Classes, derive_equality};
+pub use joining::{join_and_settle, settle};

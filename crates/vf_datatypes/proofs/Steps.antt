@@ -12,7 +12,8 @@ use Rattle.vf_sorting.specs.Answers.{Tells}
 use Rattle.vf_datatypes.specs.declared.own.Own.{Own}
 use Rattle.vf_datatypes.specs.declared.stated.Stated.{Stated}
 use Rattle.vf_datatypes.specs.Arguments.{sorts_within}
-use Rattle.vf_datatypes.specs.Datatypes.{begun, body_behind, constructor_behind, datatype_behind, own, with_constructor, with_ghost, with_next}
+use Rattle.vf_declared.specs.Writing.{with_ghost}
+use Rattle.vf_datatypes.specs.Datatypes.{begun, body_behind, constructor_behind, datatype_behind, own, with_constructor, with_next}
 use Rattle.vf_datatypes.specs.NewNames.{name_refusal, parameters_behind}
 use Rattle.vf_datatypes.specs.Walking.{Gives, behind, unless}
 

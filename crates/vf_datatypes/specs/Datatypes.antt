@@ -9,7 +9,7 @@ use Rattle.vf_declared.specs.declared.declaration.GhostDeclaration.{GhostDeclara
 use Rattle.vf_declared.specs.declared.declaration.GhostDeclaration.TheVariants as ghosts
 use Rattle.vf_declared.specs.declared.declaration.Meaning.TheVariants as meanings
 use Rattle.vf_declared.specs.declared.scope.Scope.{Scope}
-use Rattle.vf_declared.specs.Writing.{with_name}
+use Rattle.vf_declared.specs.Writing.{with_ghost, with_name}
 use Rattle.vf_syntax.specs.declared.item.Constructor.{Constructor as Written}
 use Rattle.vf_syntax.specs.declared.written.Name.{Name}
 use Rattle.vf_sorting.specs.Refusals.{refused}
@@ -22,10 +22,6 @@ use Rattle.vf_datatypes.specs.Walking.{behind, unless}
 -- a name that annotations declare at file level by the next number, in front of what it is
 abbrev pub with_next : Scope → Name → Scope
 with_next s n = with_name s n.text (meanings.Ghost (length s.ghosts)) n.place.file
-
--- one more ghost declaration
-abbrev pub with_ghost : Scope → GhostDeclaration → Scope
-with_ghost s g = record s { ghosts = s.ghosts ++ g ∷ [] }
 
 -- one more constructor of a datatype, with arguments of these sorts
 abbrev pub with_constructor : ℕ → Scope → List Sort → Result Scope Refusal

@@ -8,7 +8,7 @@ ghost use Rattle.vf_datatypes.specs.Datatypes.{constructor_behind, constructors_
 ghost use Rattle.vf_datatypes.specs.Walking.{Gives};
 
 use crate::arguments::sorts_of;
-use crate::declaring::{declare_ghost, declare_next};
+use crate::declaring::declare_next;
 use crate::names::name_refusal;
 use crate::own::Own;
 use crate::stated::Stated;
@@ -51,8 +51,8 @@ fn declare_constructor(
     }
     declare_next(alloc, scope, &written.name)?;
     let arguments = sorts_within(alloc, scope, stated, own, written.arguments.as_ref())?;
-    declare_ghost(
-        scope,
+    scope.declare_ghost(
+        alloc,
         GhostDeclaration::Constructor(Constructor {
             datatype: own.number,
             arguments,

@@ -6,7 +6,7 @@ ghost use Rattle.vf_datatypes.specs.Datatypes as datatypes;
 ghost use Rattle.vf_datatypes.specs.Walking.{Gives};
 
 use crate::constructors::declare_constructors;
-use crate::declaring::{declare_ghost, declare_next};
+use crate::declaring::declare_next;
 use crate::names::{name_refusal, type_parameters};
 use crate::own::Own;
 use crate::refusal::refused;
@@ -141,7 +141,7 @@ pub fn declare_datatype(
     }
     let number = scope.datatypes.len();
     declare_next(alloc, scope, name)?;
-    declare_ghost(scope, GhostDeclaration::Datatype(number))?;
+    scope.declare_ghost(alloc, GhostDeclaration::Datatype(number))?;
     let own = Own {
         place: name.place,
         number,

@@ -1,11 +1,11 @@
 //! Declaring what annotations declare.
 
 ghost use Rattle.std.specs.Prelude.{◌≡◌, OnOk};
-ghost use Rattle.vf_datatypes.specs.Datatypes.{with_ghost, with_next};
+ghost use Rattle.vf_datatypes.specs.Datatypes.{with_next};
 
 use std::alloc::Global;
 use vf_base::Memory;
-use vf_declared::declaration::{GhostDeclaration, Meaning};
+use vf_declared::declaration::Meaning;
 use vf_declared::scope::Scope;
 use vf_syntax::written::Name;
 
@@ -15,12 +15,4 @@ pub fn declare_next(alloc: Global, scope: &mut Scope, name: &Name) -> Result<(),
 {
     let meaning = Meaning::Ghost(scope.ghosts.len());
     scope.declare_name(alloc, name.text.as_bytes(), meaning, name.place.file)
-}
-
-/// Declares one more thing of annotations.
-pub fn declare_ghost(scope: &mut Scope, declaration: GhostDeclaration) -> Result<(), Memory>
-    ensures { OnOk result (scope.new ≡ with_ghost scope.old declaration) }
-{
-    scope.ghosts.push(declaration)?;
-    Ok(())
 }

@@ -105,6 +105,7 @@ fn scope(alloc: Global, has_stdlib: bool) -> Result<Scope, Stop> {
         sides: Stack::new(alloc),
         function_types: signatures(alloc)?,
         ghosts,
+        ghost_sides: Stack::new(alloc),
         datatypes: Sequence::new(alloc),
     })
 }

@@ -7,6 +7,7 @@ use Rattle.vf_declared.specs.declared.declaration.Meaning.{Meaning}
 use Rattle.vf_declared.specs.declared.declaration.Declaration.{Declaration}
 use Rattle.vf_declared.specs.declared.declaration.Signature.{Signature}
 use Rattle.vf_declared.specs.declared.declaration.GhostDeclaration.{GhostDeclaration}
+use Rattle.vf_declared.specs.declared.declaration.GhostSides.{GhostSides}
 use Rattle.vf_declared.specs.declared.declaration.Datatype.{Datatype}
 use Rattle.vf_declared.specs.declared.declaration.Structure.{Structure}
 use Rattle.vf_declared.specs.declared.declaration.Fields.{Fields}
@@ -115,6 +116,10 @@ function_type_of s n = slice_get s.function_types n
 -- what annotations declare by a number
 abbrev pub ghost_of : Scope → ℕ → Option GhostDeclaration
 ghost_of s n = slice_get s.ghosts n
+
+-- what a predicate, a lemma or a family with a number is declared with so far
+abbrev pub sides_of_ghost : Scope → ℕ → Option GhostSides
+sides_of_ghost s n = slice_get s.ghost_sides n
 
 -- a datatype by its number
 abbrev pub datatype_of : Scope → ℕ → Option Datatype

@@ -1,11 +1,12 @@
 -- What changes where something is declared at file level.
 use Rattle.std.specs.Prelude.{ℕ, Bool, true, false, ◌||◌, if◌then◌else◌, List, [], ◌∷◌, ◌++◌, length, Option, Some, None, slice_get, slice_set}
-use Rattle.vf_names.specs.Names.{number_of}
 use Rattle.vf_declared.specs.declared.declaration.Meaning.{Meaning}
 use Rattle.vf_declared.specs.declared.declaration.Meaning.TheVariants as meanings
 use Rattle.vf_declared.specs.declared.declaration.Declaration.{Declaration}
 use Rattle.vf_declared.specs.declared.declaration.Signature.{Signature}
 use Rattle.vf_declared.specs.declared.declaration.Sides.{Sides}
+use Rattle.vf_declared.specs.declared.declaration.GhostDeclaration.{GhostDeclaration}
+use Rattle.vf_declared.specs.declared.declaration.GhostSides.{GhostSides}
 use Rattle.vf_declared.specs.declared.declaration.Structure.{Structure}
 use Rattle.vf_declared.specs.declared.declaration.Fields.{Fields}
 use Rattle.vf_declared.specs.declared.locals.Locals.{Locals}
@@ -56,3 +57,23 @@ with_prototype s n l = record s { sides = changed (λ (x : Sides). record x { pr
 -- a scope in which the function with a number has a body
 abbrev pub with_body : Scope → ℕ → Scope
 with_body s n = record s { sides = changed (λ (x : Sides). record x { is_defined = true }) s.sides n }
+
+-- a predicate, a lemma or a family of which there is neither a declaration without a body nor a body so far
+abbrev pub no_ghost_sides : GhostSides
+no_ghost_sides = record { prototype = None; is_defined = false; functions = [] }
+
+-- a scope with one more thing that annotations declare
+abbrev pub with_ghost : Scope → GhostDeclaration → Scope
+with_ghost s g = record s { ghosts = s.ghosts ++ g ∷ []; ghost_sides = s.ghost_sides ++ no_ghost_sides ∷ [] }
+
+-- a scope in which the predicate or lemma with a number is declared without a body, behind which these locals are visible
+abbrev pub with_ghost_prototype : Scope → ℕ → Locals → Scope
+with_ghost_prototype s n l = record s { ghost_sides = changed (λ (x : GhostSides). record x { prototype = Some l }) s.ghost_sides n }
+
+-- a scope in which the predicate or lemma with a number has a body
+abbrev pub with_ghost_body : Scope → ℕ → Scope
+with_ghost_body s n = record s { ghost_sides = changed (λ (x : GhostSides). record x { is_defined = true }) s.ghost_sides n }
+
+-- a scope in which the family with a number has a body for the function with a number
+abbrev pub with_instance : Scope → ℕ → ℕ → Scope
+with_instance s n f = record s { ghost_sides = changed (λ (x : GhostSides). record x { functions = x.functions ++ f ∷ [] }) s.ghost_sides n }

@@ -56,6 +56,16 @@ pub struct Sides {
     pub is_defined: bool,
 }
 
+/// What a predicate, a lemma or a family is declared with so far: the locals behind its declaration without a body,
+/// where it has one, which are its parameters and for a lemma the names of its precondition; whether it has a body; and
+/// the numbers of the functions for which a family has one.
+#[derive(Drop)]
+pub struct GhostSides {
+    pub prototype: Option<Locals>,
+    pub is_defined: bool,
+    pub functions: NumberList,
+}
+
 /// What annotations declare at file level.
 #[derive(Drop)]
 pub enum GhostDeclaration {

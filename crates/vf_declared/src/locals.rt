@@ -2,6 +2,7 @@
 
 ghost use Rattle.std.specs.Prelude.{◌≡◌, ℕ, List, None, IfOk, OnOk};
 ghost use Rattle.vf_names.specs.Names.{number_of};
+ghost use Rattle.vf_declared.specs.Beginning.{no_locals};
 ghost use Rattle.vf_declared.specs.Scopes.{local_in};
 ghost use Rattle.vf_declared.specs.Changes.{IsAligned, first_locals, with_local, without_local};
 
@@ -59,6 +60,7 @@ impl Locals {
     pub fn new(alloc: Global) -> Locals
         ensures aligned { IsAligned result }
         ensures nothing { (name : List ℕ) → local_in result name ≡ None }
+        ensures empty { result ≡ no_locals }
     {
         Locals {
             names: Names::new(alloc),

@@ -2,15 +2,17 @@
 
 ghost use Rattle.std.specs.Prelude.{◌≡◌};
 ghost use Rattle.std.specs.Option.{option_copied};
-ghost use Rattle.vf_declared.specs.Scopes.{datatype_of, declaration_of, field_of, function_type_of, ghost_of, has_fields, is_declared, is_later_predicate, is_visible, later_predicate, local_of, sees, signature_of, tag_of};
+ghost use Rattle.vf_declared.specs.Beginning.{empty};
+ghost use Rattle.vf_declared.specs.Scopes.{datatype_of, declaration_of, field_of, function_type_of, ghost_of, has_fields, is_declared, is_later_predicate, is_visible, later_predicate, local_of, sees, sides_of_ghost, signature_of, tag_of};
 
 use crate::ctype::CType;
 use crate::declaration::{
-    Datatype, Declaration, GhostDeclaration, Meaning, Sides, Signature, Structure,
+    Datatype, Declaration, GhostDeclaration, GhostSides, Meaning, Sides, Signature, Structure,
 };
 use crate::locals::{Local, Locals};
 use crate::lookup::{at_name, has};
 use crate::stack::Stack;
+use std::alloc::Global;
 use vf_base::{NumberList, Sequence, Text};
 use vf_names::Names;
 use vf_sorts::SortList;
@@ -55,11 +57,40 @@ pub struct Scope {
     pub function_types: Sequence<Signature>,
     /// What annotations declare, by numbers.
     pub ghosts: Sequence<GhostDeclaration>,
+    /// What each of them is declared with so far.
+    pub ghost_sides: Stack<GhostSides>,
     /// The datatypes, by their numbers.
     pub datatypes: Sequence<Datatype>,
 }
 
 impl Scope {
+    /// A unit of a file, in which nothing is declared and which includes nothing. This takes no memory.
+    pub fn new(alloc: Global, file: u32) -> Scope
+        ensures { result ≡ empty file }
+    {
+        Scope {
+            file,
+            headers: Sequence::new(alloc),
+            preludes: NumberList::new(alloc),
+            has_stdlib: false,
+            has_arrays: false,
+            locals: Locals::new(alloc),
+            names: Names::new(alloc),
+            declarations: Stack::new(alloc),
+            predicates: Names::new(alloc),
+            predicate_files: Sequence::new(alloc),
+            predicate_sorts: Sequence::new(alloc),
+            tags: Names::new(alloc),
+            structures: Stack::new(alloc),
+            functions: Sequence::new(alloc),
+            sides: Stack::new(alloc),
+            function_types: Sequence::new(alloc),
+            ghosts: Sequence::new(alloc),
+            ghost_sides: Stack::new(alloc),
+            datatypes: Sequence::new(alloc),
+        }
+    }
+
     /// Whether what is declared in a file is seen from another: from the unit's own, from itself, and from each that
     /// includes it.
     pub fn sees(&self, from: u32, file: u64) -> bool
@@ -188,6 +219,13 @@ impl Scope {
         ensures { option_copied result ≡ ghost_of self.now number }
     {
         self.ghosts.get(number)
+    }
+
+    /// What a predicate, a lemma or a family with a number is declared with so far.
+    pub fn sides_of_ghost(&self, number: usize) -> Option<&GhostSides>
+        ensures { option_copied result ≡ sides_of_ghost self.now number }
+    {
+        self.ghost_sides.get(number)
     }
 
     /// A datatype by its number.

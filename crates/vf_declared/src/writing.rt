@@ -1,9 +1,11 @@
 //! Declaring at file level.
 
-ghost use Rattle.std.specs.Prelude.{◌≡◌, [], ◌∷◌, IfOk, OnOk};
-ghost use Rattle.vf_declared.specs.Writing.{with_body, with_fields, with_file, with_function, with_name, with_name_again, with_prototype, with_struct, with_struct_again};
+ghost use Rattle.std.specs.Prelude.{◌≡◌, [], ◌∷◌, ◌++◌, IfOk, OnOk};
+ghost use Rattle.vf_declared.specs.Writing.{with_body, no_ghost_sides, with_fields, with_file, with_function, with_ghost, with_ghost_body, with_ghost_prototype, with_instance, with_name, with_name_again, with_prototype, with_struct, with_struct_again};
 
-use crate::declaration::{Declaration, Fields, Meaning, Sides, Signature, Structure};
+use crate::declaration::{
+    Declaration, Fields, GhostDeclaration, GhostSides, Meaning, Sides, Signature, Structure,
+};
 use crate::locals::Locals;
 use crate::lookup::has;
 use crate::scope::Scope;
@@ -30,6 +32,14 @@ fn add_file(files: &mut NumberList, file: u32) -> Result<(), Memory>
     Ok(())
 }
 
+/// Puts a function to the end of some.
+fn add_function(functions: &mut NumberList, function: usize) -> Result<(), Memory>
+    ensures { OnOk result (functions.new ≡ functions.old ++ function ∷ []) }
+{
+    functions.push(function as u64)?;
+    Ok(())
+}
+
 /// A declaration that stands for one while it changes.
 fn no_declaration(alloc: Global) -> Declaration {
     Declaration {
@@ -52,6 +62,17 @@ fn no_sides() -> Sides {
     Sides {
         prototype: None,
         is_defined: false,
+    }
+}
+
+/// What a predicate, a lemma or a family is declared with at first.
+fn no_ghost_sides(alloc: Global) -> GhostSides
+    ensures { result ≡ no_ghost_sides }
+{
+    GhostSides {
+        prototype: None,
+        is_defined: false,
+        functions: NumberList::new(alloc),
     }
 }
 
@@ -179,5 +200,57 @@ impl Scope {
             sides.is_defined = true;
             let _none = self.sides.replace(number, sides);
         }
+    }
+
+    /// Declares one more thing of annotations.
+    pub fn declare_ghost(
+        &mut self,
+        alloc: Global,
+        declaration: GhostDeclaration,
+    ) -> Result<(), Memory>
+        ensures { OnOk result (self.new ≡ with_ghost self.old declaration) }
+    {
+        self.ghosts.push(declaration)?;
+        self.ghost_sides.push(no_ghost_sides(alloc))?;
+        Ok(())
+    }
+
+    /// Keeps the locals behind the declaration without a body of the predicate or lemma with a number.
+    pub fn declare_ghost_prototype(&mut self, alloc: Global, number: usize, locals: Locals)
+        ensures { self.new ≡ with_ghost_prototype self.old number locals }
+    {
+        if number < self.ghost_sides.len() {
+            let mut sides = self.ghost_sides.replace(number, no_ghost_sides(alloc));
+            sides.prototype = Some(locals);
+            let _none = self.ghost_sides.replace(number, sides);
+        }
+    }
+
+    /// Keeps that the predicate or lemma with a number has a body.
+    pub fn declare_ghost_body(&mut self, alloc: Global, number: usize)
+        ensures { self.new ≡ with_ghost_body self.old number }
+    {
+        if number < self.ghost_sides.len() {
+            let mut sides = self.ghost_sides.replace(number, no_ghost_sides(alloc));
+            sides.is_defined = true;
+            let _none = self.ghost_sides.replace(number, sides);
+        }
+    }
+
+    /// Keeps that the family with a number has a body for the function with a number.
+    pub fn declare_instance(
+        &mut self,
+        alloc: Global,
+        number: usize,
+        function: usize,
+    ) -> Result<(), Memory>
+        ensures { OnOk result (self.new ≡ with_instance self.old number function) }
+    {
+        if number < self.ghost_sides.len() {
+            let mut sides = self.ghost_sides.replace(number, no_ghost_sides(alloc));
+            add_function(&mut sides.functions, function)?;
+            let _none = self.ghost_sides.replace(number, sides);
+        }
+        Ok(())
     }
 }

@@ -21,7 +21,7 @@ wanted_given file tokens ghost t path split means = (
   path_ascii ghost file.path file.bytes t.place (take (length tokens - 1) (drop 1 tokens)) path means,
   λ include unit scope.
       ap (λ ts. line_included include file ts ghost unit scope) split
-      ∙ ap (λ q. q >>= λ p. include p t.place unit >>= λ found. with_header ghost t.place found.1 scope >>= λ s. Ok (found.0, s)) means,
+      ∙ ap (λ q. q >>= λ p. include p t.place unit >>= λ found. with_header ghost t.place found.0.names found.1 scope >>= λ s. Ok (found.0, s)) means,
 )
 
 pub wanted_fails : (file : File) (tokens : List Token) (ghost : Bool) (t : Token) (e : ExpandFault) → tokens ≡ t ∷ take (length tokens - 1) (drop 1 tokens) → Fails e (target ghost file.path file.bytes t.place (take (length tokens - 1) (drop 1 tokens)))

@@ -7,8 +7,7 @@ use Rattle.vf_preproc.specs.declared.fault.ExpandFault.TheVariants as faults
 use Rattle.vf_preproc.specs.declared.sources.Loaded.{Loaded}
 use Rattle.vf_preproc.specs.Directives.{Fault, ◌>>=◌, lines_of, no_include}
 use Rattle.vf_preproc.specs.Answers.{Fails}
-use Rattle.vf_preproc.specs.Macros.{no_macros}
-use Rattle.vf_preproc.specs.UnitText.{File, Includer, Library, Unit_so_far, Header, Scope, line, followed, closed, with_header, completed, header_at, any_header, old_header, new_header, loaded, begun, names_in}
+use Rattle.vf_preproc.specs.UnitText.{File, Includer, Library, Unit_so_far, Header, Scope, line, followed, closed, with_header, completed, header_at, any_header, old_header, new_header, loaded, begun, unread}
 use Rattle.vf_expand.specs.declared.frames.Include.{Include}
 use Rattle.std.proofs.lemmas.List.{reverse-append, length-map, length-reverse}
 use Rattle.vf_expand.specs.declared.frames.Waiting.{Waiting}
@@ -67,9 +66,9 @@ line_include include file l ls unit after scope new i h =
     ∙ then_then (include i.path i.hash after) _ _
     ∙ behind (include i.path i.hash after)
   where
-    behind : (r : Result (Unit_so_far × Header) Fault) → (r >>= λ found. ((with_header i.is_ghost i.hash found.1 new >>= beside found.0) >>= λ s. followed include file ls s.0 s.1) >>= λ s. closed s.0 s.1 s.1.groups) ≡ (r >>= λ found. after_header include i.hash i.is_ghost (record { file = file; lines = ls; scope = new }) found)
+    behind : (r : Result (Unit_so_far × Header) Fault) → (r >>= λ found. ((with_header i.is_ghost i.hash found.0.names found.1 new >>= beside found.0) >>= λ s. followed include file ls s.0 s.1) >>= λ s. closed s.0 s.1 s.1.groups) ≡ (r >>= λ found. after_header include i.hash i.is_ghost (record { file = file; lines = ls; scope = new }) found)
     behind (Err e) = refl
-    behind (Ok found) = joined (with_header i.is_ghost i.hash found.1 new)
+    behind (Ok found) = joined (with_header i.is_ghost i.hash found.0.names found.1 new)
       where
         joined : (r : Result Scope Fault) → (((r >>= beside found.0) >>= λ s. followed include file ls s.0 s.1) >>= λ s. closed s.0 s.1 s.1.groups) ≡ (r >>= λ s. going_text include (record { file = file; lines = ls; scope = s }) found.0)
         joined (Ok s) = refl
@@ -95,9 +94,9 @@ old_included library n i going unit number shallow old =
     ∙ behind (header_at (suc d) library) (old_header i.hash unit (slice_get unit.complete number))
     ∙ ap (λ k. old_text i.hash i.is_ghost unit number going.scope >>= λ s. going_text (header_at k library) (record going { scope = s.1 }) s.0) (sym deeper)
   where
-    behind : (include : Includer) (r : Result (Unit_so_far × Header) Fault) → (r >>= λ found. after_header include i.hash i.is_ghost going found) ≡ ((r >>= λ found. with_header i.is_ghost i.hash found.1 going.scope >>= beside found.0) >>= λ s. going_text include (record going { scope = s.1 }) s.0)
+    behind : (include : Includer) (r : Result (Unit_so_far × Header) Fault) → (r >>= λ found. after_header include i.hash i.is_ghost going found) ≡ ((r >>= λ found. with_header i.is_ghost i.hash found.0.names found.1 going.scope >>= beside found.0) >>= λ s. going_text include (record going { scope = s.1 }) s.0)
     behind include (Err e) = refl
-    behind include (Ok found) = joined (with_header i.is_ghost i.hash found.1 going.scope)
+    behind include (Ok found) = joined (with_header i.is_ghost i.hash found.0.names found.1 going.scope)
       where
         joined : (r : Result Scope Fault) → (r >>= λ s. going_text include (record going { scope = s }) found.0) ≡ ((r >>= beside found.0) >>= λ s. going_text include (record going { scope = s.1 }) s.0)
         joined (Ok s) = refl
@@ -108,8 +107,8 @@ abbrev pub pause_for : Include → Going → Unit_so_far → Pause
 pause_for i going unit = record { going = going; hash = i.hash; ghost_text = i.is_ghost; number = length unit.paths }
 
 -- a header at its beginning
-abbrev pub going_at_first : List ℕ → Loaded → Going
-going_at_first path file = record { file = record { path = path; bytes = file.bytes }; lines = lines_of file.tokens; scope = record { macros = no_macros; groups = []; names = names_in file.tokens } }
+abbrev pub going_at_first : List ℕ → Loaded → ℕ → Going
+going_at_first path file number = record { file = record { path = path; bytes = file.bytes }; lines = lines_of file.tokens; scope = unread number }
 
 -- the include of a header that was not begun before, by the file that is read
 pub new_included : (library : Library) (ps : List Pause) (i : Include) (going : Going) (unit : Unit_so_far) → length ps < 32 → number_of unit.paths i.path ≡ None
@@ -124,12 +123,12 @@ new_included library ps i going unit shallow new =
 
 -- where a header was read, its includer waits for its end
 pub new_begun : (library : Library) (ps : List Pause) (i : Include) (going : Going) (unit : Unit_so_far) (file : Loaded) → length ps < 32 → number_of unit.paths i.path ≡ None → loaded i.hash (library i.path) ≡ Ok file
-    → resumed library ps (include_text (header_at (32 - length ps) library) i going unit) ≡ text_from library (pause_for i going unit ∷ ps) (going_at_first i.path file) (begun (record unit { headers = unit.headers ++ file.number ∷ [] }) i.path)
+    → resumed library ps (include_text (header_at (32 - length ps) library) i going unit) ≡ text_from library (pause_for i going unit ∷ ps) (going_at_first i.path file (length unit.paths)) (begun (record unit { headers = unit.headers ++ file.number ∷ [] }) i.path file.tokens)
 new_begun library ps i going unit file shallow new read =
     ap (resumed library ps) (
     new_included library ps i going unit shallow new
     ∙ ap (λ q. q >>= λ f. new_header (header_at (32 - suc (length ps)) library) i.path unit f >>= λ found. after_header (header_at (32 - length ps) library) i.hash i.is_ghost going found) read
-    ∙ then_then (going_text (header_at (32 - suc (length ps)) library) (going_at_first i.path file) (begun (record unit { headers = unit.headers ++ file.number ∷ [] }) i.path)) _ _)
+    ∙ then_then (going_text (header_at (32 - suc (length ps)) library) (going_at_first i.path file (length unit.paths)) (begun (record unit { headers = unit.headers ++ file.number ∷ [] }) i.path file.tokens)) _ _)
 
 -- where a header could not be read the walk ends
 pub new_fails : (library : Library) (ps : List Pause) (i : Include) (going : Going) (unit : Unit_so_far) (e : ExpandFault) → length ps < 32 → number_of unit.paths i.path ≡ None → Faults e (loaded i.hash (library i.path))
@@ -142,14 +141,14 @@ pub at_end : (include : Includer) (going : Going) (unit : Unit_so_far) → going
 at_end include going unit none = ap (λ ls. followed include going.file ls unit going.scope >>= λ s. closed s.0 s.1 s.1.groups) none
 
 -- behind a header its includer goes on
-pub resumed_on : (library : Library) (p : Pause) (ps : List Pause) (unit : Unit_so_far) (header : Header) (new : Scope) → with_header p.ghost_text p.hash header p.going.scope ≡ Ok new
+pub resumed_on : (library : Library) (p : Pause) (ps : List Pause) (unit : Unit_so_far) (header : Header) (new : Scope) → with_header p.ghost_text p.hash unit.names header p.going.scope ≡ Ok new
     → resumed library (p ∷ ps) (Ok (unit, header)) ≡ text_from library ps (record p.going { scope = new }) (completed p.number unit header)
 resumed_on library p ps unit header new h = ap (λ q. resumed library ps (q >>= λ s. going_text (header_at (32 - length ps) library) (record p.going { scope = s }) (completed p.number unit header))) h
 
 -- where it cannot, the walk ends
-pub resumed_fails : (library : Library) (p : Pause) (ps : List Pause) (unit : Unit_so_far) (header : Header) (e : ExpandFault) → Fails e (with_header p.ghost_text p.hash header p.going.scope)
+pub resumed_fails : (library : Library) (p : Pause) (ps : List Pause) (unit : Unit_so_far) (header : Header) (e : ExpandFault) → Fails e (with_header p.ghost_text p.hash unit.names header p.going.scope)
     → Faults e (resumed library (p ∷ ps) (Ok (unit, header)))
-resumed_fails library p ps unit header e h = faults_resumed library ps e _ (faults_then e (with_header p.ghost_text p.hash header p.going.scope) _ (fails_faults e _ h))
+resumed_fails library p ps unit header e h = faults_resumed library ps e _ (faults_then e (with_header p.ghost_text p.hash unit.names header p.going.scope) _ (fails_faults e _ h))
 
 -- one more file waits
 pub pauses_push : (stack : List Waiting) (w : Waiting) → pauses_of (stack ++ w ∷ []) ≡ pause_of w ∷ pauses_of stack
@@ -216,5 +215,5 @@ begins_gives library walk i file (Ok w) shallow new read b memory =
     new_begun library (pauses_of walk.stack.items) i (going_of walk.current) (unit_of walk.unit) file shallow new read
     ∙ sym (ap (λ ps. text_from library ps (going_of w.current) (unit_of w.unit)) b.pauses
     ∙ ap (λ g. text_from library (pause_for i (going_of walk.current) (unit_of walk.unit) ∷ pauses_of walk.stack.items) g (unit_of w.unit)) b.current
-    ∙ ap (text_from library (pause_for i (going_of walk.current) (unit_of walk.unit) ∷ pauses_of walk.stack.items) (going_at_first i.path file)) b.unit)
+    ∙ ap (text_from library (pause_for i (going_of walk.current) (unit_of walk.unit) ∷ pauses_of walk.stack.items) (going_at_first i.path file (length walk.unit.paths))) b.unit)
 begins_gives library walk i file (Err e) shallow new read b memory = subst (λ x. Faults x (walk_include_text library i walk)) (sym memory) tt

@@ -5,7 +5,7 @@ use Rattle.vf_preproc.specs.declared.fault.ExpandFault.TheVariants as faults
 use Rattle.vf_preproc.specs.declared.sources.Loaded.{Loaded}
 use Rattle.vf_preproc.specs.Directives.{Fault, ◌>>=◌}
 use Rattle.vf_preproc.specs.Answers.{Gives}
-use Rattle.vf_preproc.specs.UnitText.{Library, Text_of_unit}
+use Rattle.vf_preproc.specs.UnitText.{Library, Text_of_unit, completed}
 use Rattle.vf_preproc.specs.Units.{unit_of}
 use Rattle.vf_expand.specs.declared.state.Walk.{Walk}
 use Rattle.vf_expand.specs.declared.whole.UnitTokens.{UnitTokens}
@@ -15,12 +15,12 @@ use Rattle.vf_expand.specs.Wholes.{end_of, counted, text_of_file, text_of, Named
 use Rattle.vf_expand.proofs.Walking.{going_at_first, fails_faults}
 
 -- the text of a unit is what its walk gives, with its tokens counted
-pub whole_text : (library : Library) (path : List ℕ) (file : Loaded) (walk : Walk) → Starts path file walk → text_of_file library path file ≡ (walk_text library walk >>= λ s. counted (end_of file.number file.bytes) s.0)
+pub whole_text : (library : Library) (path : List ℕ) (file : Loaded) (walk : Walk) → Starts path file walk → text_of_file library path file ≡ (walk_text library walk >>= λ s. counted (end_of file.number file.bytes) (completed 0 s.0 s.1))
 whole_text library path file walk starts =
-    ap (λ r. r >>= λ s. counted (end_of file.number file.bytes) s.0) (sym (
+    ap (λ r. r >>= λ s. counted (end_of file.number file.bytes) (completed 0 s.0 s.1)) (sym (
     ap (λ ps. text_from library ps (going_of walk.current) (unit_of walk.unit)) starts.pauses
     ∙ ap (λ g. text_from library [] g (unit_of walk.unit)) starts.current
-    ∙ ap (text_from library [] (going_at_first path file)) starts.unit))
+    ∙ ap (text_from library [] (going_at_first path file 0)) starts.unit))
 
 -- what is given of a unit that was counted
 pub counted_gives : (text : Result Text_of_unit Fault) (r : Result UnitTokens ExpandFault) (t : Result Text_of_unit Fault) → text ≡ t → Gives text_of r t → FileGives text r

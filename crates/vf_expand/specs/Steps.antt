@@ -6,12 +6,11 @@ use Rattle.vf_preproc.specs.declared.fault.ExpandFault.{ExpandFault}
 use Rattle.vf_preproc.specs.declared.fault.ExpandFault.TheVariants as faults
 use Rattle.vf_preproc.specs.declared.sources.Loaded.{Loaded}
 use Rattle.vf_preproc.specs.declared.unit.Unit.{Unit as KeptUnit}
-use Rattle.vf_preproc.specs.Macros.{no_macros}
 use Rattle.vf_base.specs.declared.refusal.Shown.TheVariants as shown
 use Rattle.vf_preproc.specs.Directives.{Fault, Refused, lines_of, ◌>>=◌}
 use Rattle.vf_preproc.specs.Answers.{Fails}
 use Rattle.vf_preproc.specs.Targets.{is_ascii}
-use Rattle.vf_preproc.specs.UnitText.{Includer, Library, Unit_so_far, Header, Scope, File, header_at, line, with_header, old_header, begun, names_in}
+use Rattle.vf_preproc.specs.UnitText.{Includer, Library, Unit_so_far, Header, Scope, File, header_at, line, with_header, old_header, completed, begun, unread}
 use Rattle.vf_preproc.specs.Units.{unit_of}
 use Rattle.vf_preproc.specs.LineSteps.{line_included}
 use Rattle.vf_lexer.specs.declared.token.Token.{Token}
@@ -25,7 +24,7 @@ use Rattle.vf_expand.specs.Walks.{Going, going_text, after_header, resumed, walk
 
 -- what an include makes of a unit and the file in which it stands
 abbrev pub line_with : Includer → Include → Unit_so_far → Scope → Result (Unit_so_far × Scope) Fault
-line_with include i unit scope = include i.path i.hash unit >>= λ found. with_header i.is_ghost i.hash found.1 scope >>= λ s. Ok (found.0, s)
+line_with include i unit scope = include i.path i.hash unit >>= λ found. with_header i.is_ghost i.hash found.0.names found.1 scope >>= λ s. Ok (found.0, s)
 
 -- the include that a line is; or it is refused
 abbrev pub WantedGives : File → List Token → Bool → Result Include ExpandFault → Type 0
@@ -55,7 +54,7 @@ walk_include_text library i w = resumed library (pauses_of w.stack.items) (inclu
 
 -- what a header that was begun before makes of a unit and the file that includes it
 abbrev pub old_text : Place → Bool → Unit_so_far → ℕ → Scope → Result (Unit_so_far × Scope) Fault
-old_text hash ghost unit number scope = old_header hash unit (slice_get unit.complete number) >>= λ found. with_header ghost hash found.1 scope >>= λ s. Ok (found.0, s)
+old_text hash ghost unit number scope = old_header hash unit (slice_get unit.complete number) >>= λ found. with_header ghost hash found.0.names found.1 scope >>= λ s. Ok (found.0, s)
 
 -- a refusal is that of the definition, and faults of reading and want of memory say nothing; the named file was there
 abbrev pub Faults : {A : Type 0} → ExpandFault → Result A Fault → Type 0
@@ -81,15 +80,22 @@ abbrev pub WalkGives : Result (Unit_so_far × Header) Fault → Library → Resu
 WalkGives text library (Ok w) = text ≡ walk_text library w
 WalkGives text library (Err e) = Faults e text
 
+-- all files were followed to their ends, and the file that the unit is of is complete too
+pub record Ends (text : Result (Unit_so_far × Header) Fault) (unit : KeptUnit) : Type 0 where
+  pub before : Unit_so_far
+  pub header : Header
+  pub gives : text ≡ Ok (before, header)
+  pub complete : unit_of unit ≡ completed 0 before header
+
 -- the walk went on, or ended with the unit; or it is refused
 abbrev pub NextGives : Result (Unit_so_far × Header) Fault → Library → Result Next ExpandFault → Type 0
 NextGives text library (Ok (nexts.Goes w)) = text ≡ walk_text library w
-NextGives text library (Ok (nexts.Ends unit)) = (header : Header) × (text ≡ Ok (unit_of unit, header))
+NextGives text library (Ok (nexts.Ends unit)) = Ends text unit
 NextGives text library (Err e) = Faults e text
 
 -- the walk ended with the unit; or it is refused
 abbrev pub EndGives : Result (Unit_so_far × Header) Fault → Result KeptUnit ExpandFault → Type 0
-EndGives text (Ok unit) = (header : Header) × (text ≡ Ok (unit_of unit, header))
+EndGives text (Ok unit) = Ends text unit
 EndGives text (Err e) = Faults e text
 
 -- no more tokens are kept than matter
@@ -99,6 +105,6 @@ FewNext (nexts.Ends unit) = length unit.tokens ≤ 200001
 
 -- a header was begun: the file that includes it waits for its end
 pub record Begins (old : Walk) (include : Include) (file : Loaded) (new : Walk) : Type 0 where
-  pub unit : unit_of new.unit ≡ begun (record (unit_of old.unit) { headers = old.unit.headers ++ file.number ∷ [] }) include.path
+  pub unit : unit_of new.unit ≡ begun (record (unit_of old.unit) { headers = old.unit.headers ++ file.number ∷ [] }) include.path file.tokens
   pub pauses : pauses_of new.stack.items ≡ record { going = going_of old.current; hash = include.hash; ghost_text = include.is_ghost; number = length old.unit.paths } ∷ pauses_of old.stack.items
-  pub current : going_of new.current ≡ record { file = record { path = include.path; bytes = file.bytes }; lines = lines_of file.tokens; scope = record { macros = no_macros; groups = []; names = names_in file.tokens } }
+  pub current : going_of new.current ≡ record { file = record { path = include.path; bytes = file.bytes }; lines = lines_of file.tokens; scope = unread (length old.unit.paths) }

@@ -22,7 +22,7 @@ going_text include going unit = followed include going.file going.lines unit goi
 
 -- what a file gives behind an include in it, once the header is there
 abbrev pub after_header : Includer → Place → Bool → Going → Unit_so_far × Header → Result (Unit_so_far × Header) Fault
-after_header include hash ghost going found = with_header ghost hash found.1 going.scope >>= λ s. going_text include (record going { scope = s }) found.0
+after_header include hash ghost going found = with_header ghost hash found.0.names found.1 going.scope >>= λ s. going_text include (record going { scope = s }) found.0
 
 -- a file that waits for the end of a header: where its include stands, whether it is ghost text, and the header's number among the files that were begun
 pub record Pause : Type 0 where

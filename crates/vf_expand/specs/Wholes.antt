@@ -1,5 +1,5 @@
 -- The text of a whole unit.
-use Rattle.std.specs.Prelude.{◌≡◌, ◌<◌, ◌≤◌, ◌⊎◌, ℕ, Bool, List, [], length, Option, Some, None, slice_get, Result, Ok, Err}
+use Rattle.std.specs.Prelude.{◌≡◌, ◌<◌, ◌≤◌, ◌⊎◌, ℕ, Bool, List, [], ◌∷◌, length, map, slice_index, Option, Some, None, slice_get, Result, Ok, Err}
 use Rattle.vf_base.specs.declared.place.Place.{Place}
 use Rattle.vf_base.specs.declared.rule.Rule.TheVariants as rules_of
 use Rattle.vf_base.specs.declared.refusal.Shown.TheVariants as shown
@@ -11,17 +11,16 @@ use Rattle.vf_lexer.specs.declared.token.Token.{Token}
 use Rattle.vf_lexer.specs.Tokens.{place_after}
 use Rattle.vf_preproc.specs.declared.sources.Loaded.{Loaded}
 use Rattle.vf_preproc.specs.Directives.{Fault, Refused, Missing, Unread, ◌>>=◌, lines_of}
-use Rattle.vf_preproc.specs.Macros.{no_macros}
 use Rattle.vf_preproc.specs.Units.{unit_of, Lexes, HasNoToken}
 use Rattle.vf_expand.specs.declared.state.Walk.{Walk}
 use Rattle.vf_expand.specs.Walks.{pauses_of, going_of}
 use Rattle.vf_expand.specs.Steps.{Faults}
-use Rattle.vf_preproc.specs.UnitText.{Source, Text, Faulty, TooLong, Absent, Unknown, Library, Unit_so_far, Text_of_unit, file_text, header_at, begun, beginning, names_in}
+use Rattle.vf_preproc.specs.UnitText.{Source, Text, Faulty, TooLong, Absent, Unknown, Library, Unit_so_far, Header, Text_of_unit, file_text, header_at, begun, completed, beginning, unread}
 use Rattle.vf_expand.specs.declared.whole.UnitTokens.{UnitTokens}
 
 -- a unit of which nothing was made yet
 abbrev pub no_unit : Unit_so_far
-no_unit = record { tokens = []; paths = []; complete = []; headers = [] }
+no_unit = record { tokens = []; paths = []; names = []; complete = []; headers = [] }
 
 -- the file that a unit is of, by what there is to know of it
 abbrev pub named : Source → Result Loaded Fault
@@ -49,9 +48,18 @@ fault_at hash faults.Memory = faults.Memory
 abbrev pub end_of : ℕ → List ℕ → Place
 end_of number bytes = place_after (beginning number) bytes
 
+-- the files of which a file consists, once it is complete
+abbrev pub files_of : Option Header → List ℕ
+files_of None = []
+files_of (Some header) = header.files
+
+-- of each file of a unit the numbers of the files of which it consists, by the numbers of all
+abbrev pub includes_of : List ℕ → List (Option Header) → List (List ℕ)
+includes_of numbers complete = map (λ h. map (slice_index numbers) (files_of h)) complete
+
 -- a unit, by the token that would be one too many
 abbrev pub without_excess : Place → Unit_so_far → Option Token → Result Text_of_unit Fault
-without_excess place unit None = Ok (record { tokens = unit.tokens; headers = unit.headers; end_of_file = place })
+without_excess place unit None = Ok (record { tokens = unit.tokens; headers = unit.headers; includes = includes_of (place.file ∷ unit.headers) unit.complete; end_of_file = place })
 without_excess place unit (Some token) = Err (Refused rules_of.Size token.place)
 
 -- a unit has at most 200,000 tokens
@@ -60,7 +68,7 @@ counted place unit = without_excess place unit (slice_get unit.tokens 200000)
 
 -- the text of the unit of a file that was read, with at most 32 includes within one another
 abbrev pub text_of_file : Library → List ℕ → Loaded → Result Text_of_unit Fault
-text_of_file library path file = file_text (header_at 32 library) (record { path = path; bytes = file.bytes }) file.tokens (begun no_unit path) >>= λ s. counted (end_of file.number file.bytes) s.0
+text_of_file library path file = file_text (header_at 32 library) (record { path = path; bytes = file.bytes }) 0 file.tokens (begun no_unit path file.tokens) >>= λ s. counted (end_of file.number file.bytes) (completed 0 s.0 s.1)
 
 -- the text of the unit of a path: the tokens of its file, with those of each header at its first include, and macros replaced
 abbrev pub text_of_unit : Library → List ℕ → Result Text_of_unit Fault
@@ -68,7 +76,7 @@ text_of_unit library path = named (library path) >>= λ file. text_of_file libra
 
 -- what is given of a unit
 abbrev pub text_of : UnitTokens → Text_of_unit
-text_of u = record { tokens = u.tokens; headers = u.headers; end_of_file = u.«end» }
+text_of u = record { tokens = u.tokens; headers = u.headers; includes = u.includes; end_of_file = u.«end» }
 
 -- what is given of a unit whose file was read; a fault of reading and want of memory say nothing
 abbrev pub FileGives : Result Text_of_unit Fault → Result UnitTokens ExpandFault → Type 0
@@ -82,9 +90,9 @@ UnitGives text result = FileGives text result
 
 -- the walk stands at the beginning of the file that the unit is of
 pub record Starts (path : List ℕ) (file : Loaded) (walk : Walk) : Type 0 where
-  pub unit : unit_of walk.unit ≡ begun no_unit path
+  pub unit : unit_of walk.unit ≡ begun no_unit path file.tokens
   pub pauses : pauses_of walk.stack.items ≡ []
-  pub current : going_of walk.current ≡ record { file = record { path = path; bytes = file.bytes }; lines = lines_of file.tokens; scope = record { macros = no_macros; groups = []; names = names_in file.tokens } }
+  pub current : going_of walk.current ≡ record { file = record { path = path; bytes = file.bytes }; lines = lines_of file.tokens; scope = unread 0 }
 
 -- what is made of a file's bytes: its tokens, or the place where it has none
 abbrev pub Cut : Bool → ℕ → List ℕ → Result Loaded ExpandFault → Type 0

@@ -2,8 +2,7 @@
 
 ghost use Rattle.std.specs.Prelude.{◌≡◌, [], ◌≤◌, ◌<◌, ◌^◌, length, IfOk, OnOk};
 ghost use Rattle.vf_preproc.specs.Directives.{lines_of};
-ghost use Rattle.vf_preproc.specs.Macros.{no_macros};
-ghost use Rattle.vf_preproc.specs.UnitText.{names_in};
+ghost use Rattle.vf_preproc.specs.UnitText.{unread};
 ghost use Rattle.vf_preproc.specs.LineSteps.{file_of};
 ghost use Rattle.vf_preproc.specs.Scopes.{scope_of};
 ghost use Rattle.vf_preproc.specs.Units.{unit_of};
@@ -66,18 +65,18 @@ pub enum Line {
     Include(Include),
 }
 
-/// The beginning of a file.
-pub fn open_file(alloc: Global, path: Text, file: Loaded) -> Result<Open, Memory>
+/// The beginning of the file with a number among those that were begun.
+pub fn open_file(alloc: Global, path: Text, file: Loaded, number: usize) -> Result<Open, Memory>
     ensures left { IfOk result (λ o. left_of o < 2 ^ 64) }
     ensures joins { IfOk result (λ o. o.joins.entries ≡ []) }
     ensures going { IfOk result (λ o. going_of o ≡ record {
       file = record { path = path; bytes = file.bytes };
       lines = lines_of file.tokens;
-      scope = record { macros = no_macros; groups = []; names = names_in file.tokens };
+      scope = unread number;
     }) }
 {
     let _size = file.tokens.len();
-    let scope = opened(alloc, file.tokens.as_slice())?;
+    let scope = opened(alloc, number)?;
     Ok(Open {
         path,
         bytes: file.bytes,

@@ -5,6 +5,7 @@
 #![tactic(auto)]
 
 mod frames;
+mod includes;
 mod laws;
 mod sources;
 mod state;
@@ -14,5 +15,7 @@ mod whole;
 pub use laws::snapshots_are_told;
 pub use whole::{UnitTokens, expand};
 
+#[cfg(test)]
+mod sizes;
 #[cfg(test)]
 mod tests;

@@ -6,13 +6,14 @@ ghost use Rattle.std.specs.Option.{option_map};
 ghost use Rattle.vf_base.specs.Outside.{Rose};
 ghost use Rattle.vf_names.specs.Names.{number_of};
 ghost use Rattle.vf_preproc.specs.Answers.{Gives};
+ghost use Rattle.vf_preproc.specs.Joins.{AreBelow};
 ghost use Rattle.vf_preproc.specs.Scopes.{header_of, scope_of};
 ghost use Rattle.vf_preproc.specs.Targets.{is_ascii};
 ghost use Rattle.vf_preproc.specs.UnitText.{Library, completed};
 ghost use Rattle.vf_preproc.specs.Units.{unit_of, Tells};
 ghost use Rattle.vf_expand.specs.Worlds.{world, Reads};
 ghost use Rattle.vf_expand.specs.Walks.{pause_of, pauses_of, going_of, walk_text, resumed};
-ghost use Rattle.vf_expand.specs.Remembered.{Remembers, AllRemember, complete_at, WalkRemembers, NextRemembers};
+ghost use Rattle.vf_expand.specs.Remembered.{IsNamed, Remembers, AllRemember, complete_at, WalkRemembers, NextRemembers};
 ghost use Rattle.vf_expand.specs.Weights.{left_of, lefts_of, weight, weight_of, weight_before, NextFalls};
 ghost use Rattle.vf_expand.specs.Steps.{old_text, walk_include_text, WalkGives, NextGives, EndGives, FewNext, Begins, IsOwn};
 
@@ -67,14 +68,22 @@ fn join_old(
     number: usize,
 ) -> Result<(), ExpandFault>
     requires below { number < length unit.now.paths }
-    requires remembers { Remembers (length unit.now.paths) (unit_of unit.now).complete joins.old (scope_of scope.old) }
+    requires named { IsNamed (unit_of unit.now) }
+    requires remembers { Remembers (length unit.now.paths) unit.now.names (unit_of unit.now).complete joins.old (scope_of scope.old) }
     ensures exact { Gives (λ _. (unit_of unit.now, scope_of scope.new)) result (old_text include.now.hash include.now.is_ghost (unit_of unit.now) number (scope_of scope.old)) }
-    ensures remembers { OnOk result (Remembers (length unit.now.paths) (unit_of unit.now).complete joins.new (scope_of scope.new)) }
+    ensures remembers { OnOk result (Remembers (length unit.now.paths) unit.now.names (unit_of unit.now).complete joins.new (scope_of scope.new)) }
 {
     match complete_header(unit, number) {
         Some(header) => {
             let known = joins.get(&number).copied();
-            let join = join_header(include.is_ghost, include.hash, header, scope, known)?;
+            let join = join_header(
+                include.is_ghost,
+                include.hash,
+                &unit.names,
+                header,
+                scope,
+                known,
+            )?;
             joins.insert(number, join)?;
             Ok(())
         }
@@ -125,8 +134,12 @@ fn begin(walk: Walk, include: Include, loaded: Loaded) -> Result<Walk, ExpandFau
         mut stack,
         current,
     } = walk;
-    let number = unit.begin(include.path.as_bytes(), loaded.number)?;
-    let header = open_file(unit.alloc, include.path, loaded)?;
+    let number = unit.begin(
+        include.path.as_bytes(),
+        loaded.number,
+        loaded.tokens.as_slice(),
+    )?;
+    let header = open_file(unit.alloc, include.path, loaded, number)?;
     let waiting = Waiting {
         file: current,
         hash: include.hash,
@@ -218,7 +231,9 @@ fn resume(
     waiting: Waiting,
     header: Header,
 ) -> Result<Walk, ExpandFault>
-    requires remembers { AllRemember (length unit.paths) (unit_of unit).complete (waiting ∷ reverse stack.items) }
+    requires named { IsNamed (unit_of unit) }
+    requires below { AreBelow (length unit.paths) (header_of header).files }
+    requires remembers { AllRemember (length unit.paths) unit.names (unit_of unit).complete (waiting ∷ reverse stack.items) }
     requires few { length unit.tokens ≤ 200001 }
     ensures exact { (library : Library) → WalkGives (resumed library (pause_of waiting ∷ pauses_of stack.items) (Ok (unit_of unit, header_of header))) library result }
     ensures own { IfErr result IsOwn }
@@ -233,7 +248,7 @@ fn resume(
         is_ghost,
         number,
     } = waiting;
-    with_header(is_ghost, hash, &header, &mut file.scope)?;
+    with_header(is_ghost, hash, &unit.names, &header, &mut file.scope)?;
     finish(&mut unit, number, header);
     Ok(Walk {
         unit,
@@ -254,13 +269,16 @@ fn end(walk: Walk) -> Result<Next, ExpandFault>
     ensures falls { IfOk result (NextFalls (weight walk)) }
 {
     let Walk {
-        unit,
+        mut unit,
         mut stack,
         current,
     } = walk;
     let header = closed(current.scope)?;
     match wake(&mut stack) {
-        None => Ok(Next::Ends(unit)),
+        None => {
+            finish(&mut unit, 0, header);
+            Ok(Next::Ends(unit))
+        }
         Some(waiting) => {
             let walk = resume(unit, stack, waiting, header)?;
             Ok(Next::Goes(walk))

@@ -65,7 +65,7 @@ fn check_refused(
 }
 
 /// Texts of files, the tokens of their unit, and how many headers it has.
-const UNITS: [(&str, &str, &str, &str, usize); 9] = [
+const UNITS: [(&str, &str, &str, &str, usize); 11] = [
     ("#include \"a.h\"\nx\n", "y", "", "y x ", 1),
     (
         "#include \"a.h\"\n#include \"a.h\"\nA",
@@ -123,6 +123,20 @@ const UNITS: [(&str, &str, &str, &str, usize); 9] = [
         "0 ",
         1,
     ),
+    (
+        "#define z 1\n#include \"a.h\"\nz",
+        "#define z 1\nz",
+        "",
+        "1 1 ",
+        1,
+    ),
+    (
+        "#define z 1\n#include \"a.h\"\nz",
+        "#include \"d/b.h\"\nz",
+        "#define z 1\nz",
+        "1 1 1 ",
+        2,
+    ),
 ];
 
 #[test]
@@ -135,7 +149,7 @@ fn units(rt: HostRuntime) -> Result<(), Fail> {
 }
 
 /// Texts of files, and the rule and the place of the refusal of their unit.
-const REFUSALS: [(&str, &str, &str, Rule, u32, u32, u32); 9] = [
+const REFUSALS: [(&str, &str, &str, Rule, u32, u32, u32); 12] = [
     ("#include \"a.h\"", "x\n$", "", Rule::Lex, 1, 2, 1),
     ("x\n #include \"no.h\"", "", "", Rule::Include, 0, 2, 2),
     ("#include <a.h>", "", "", Rule::Include, 0, 1, 1),
@@ -185,6 +199,33 @@ const REFUSALS: [(&str, &str, &str, Rule, u32, u32, u32); 9] = [
         2,
         1,
     ),
+    (
+        "#define z 2\n#include \"a.h\"",
+        "#include \"d/b.h\"",
+        "z",
+        Rule::Directive,
+        0,
+        2,
+        1,
+    ),
+    (
+        "#include \"a.h\"\n#define z 2\n#include \"a.h\"",
+        "#include \"d/b.h\"",
+        "z",
+        Rule::Directive,
+        0,
+        3,
+        1,
+    ),
+    (
+        "#include \"d/b.h\"\n#define z 2\n#include \"a.h\"",
+        "#include \"d/b.h\"",
+        "z",
+        Rule::Directive,
+        0,
+        3,
+        1,
+    ),
 ];
 
 #[test]
@@ -193,6 +234,54 @@ fn refusals(rt: HostRuntime) -> Result<(), Fail> {
         let mut files = files_of(rt.alloc(), main, first, second)?;
         let place = Place { file, line, column };
         check_refused(&rt, rt.alloc(), &mut files, rule, place);
+    }
+    Ok(())
+}
+
+/// The numbers of the files that each file of a unit includes, with a blank behind each, and `;` behind those of one.
+fn included(alloc: Global, unit: &UnitTokens) -> Result<Vec<u8>, Fail> {
+    let mut seen = Vec::new(alloc);
+    for files in unit.includes.as_slice() {
+        for file in files.as_slice() {
+            let number = format!(in alloc; "{} ", *file)?;
+            seen.extend_from_slice(number.as_bytes())?;
+        }
+        seen.push(59)?;
+    }
+    Ok(seen)
+}
+
+/// Texts of files, and the numbers of the files that each of them includes.
+const INCLUDES: [(&str, &str, &str, &str); 5] = [
+    ("x", "y", "z", "0 ;"),
+    ("#include \"a.h\"\n#include \"a.h\"", "y", "z", "0 1 ;1 ;"),
+    (
+        "#include \"a.h\"",
+        "#include \"d/b.h\"",
+        "z",
+        "0 1 2 ;1 2 ;2 ;",
+    ),
+    (
+        "#include \"d/b.h\"\n#include \"a.h\"",
+        "#include \"d/b.h\"",
+        "z",
+        "0 1 2 ;1 ;2 1 ;",
+    ),
+    ("//@ #include \"g.gh\"\nx", "y", "lemma G;", "0 1 ;1 ;"),
+];
+
+#[test]
+fn includes(rt: HostRuntime) -> Result<(), Fail> {
+    for (main, first, second, wanted) in INCLUDES {
+        let mut files = files_of(rt.alloc(), main, first, second)?;
+        let mut snapshot = Snapshot::new(rt.alloc());
+        match expand(rt.alloc(), &mut snapshot, &mut files, "m.c") {
+            Ok(unit) => {
+                let seen = included(rt.alloc(), &unit)?;
+                assert!(rt; seen.as_slice() == wanted.as_bytes(), "at {wanted}");
+            }
+            Err(_) => assert!(rt; false, "at {wanted}"),
+        }
     }
     Ok(())
 }

@@ -13,14 +13,15 @@ ghost use Rattle.vf_preproc.specs.Answers.{Gives};
 ghost use Rattle.vf_expand.specs.Wholes.{no_unit, end_of, text_of, text_of_unit, text_of_file, counted, UnitGives, FileGives, Starts};
 
 use crate::frames::open_file;
+use crate::includes::includes_of;
 use crate::sources::load;
 use crate::state::Walk;
 use crate::steps::walk_on;
 use std::alloc::Global;
 use vf_base::{Files, Memory, NumberList, Place, Rule, Sequence, Text};
-use vf_lexer::TokenList;
+use vf_lexer::{Token, TokenList};
 use vf_names::Names;
-use vf_preproc::{ExpandFault, Loaded, MOST_TOKENS, Unit};
+use vf_preproc::{ExpandFault, Loaded, MOST_TOKENS, NameTable, Unit, names_in};
 use vf_snapshot::Snapshot;
 
 /// How many tokens of macros may be looked at in a unit.
@@ -35,6 +36,9 @@ pub struct UnitTokens {
     pub tokens: TokenList,
     /// The numbers of the headers in the order of their first includes.
     pub headers: NumberList,
+    /// For the file that the unit is of, and then for each header, the numbers of the files of which it consists:
+    /// itself, and those that it includes, directly or through others.
+    pub includes: Sequence<NumberList>,
     /// The place behind the last byte of the file that the unit is of.
     pub end: Place,
 }
@@ -78,19 +82,22 @@ fn end_of(number: u32, bytes: &[u8]) -> Place
     place
 }
 
-/// A unit of whose file nothing was followed yet.
-fn begin(alloc: Global, path: &[u8]) -> Result<Unit, Memory>
-    ensures begun { IfOk result (λ unit. unit_of unit ≡ begun no_unit path.now) }
+/// A unit of whose file with some tokens nothing was followed yet.
+fn begin(alloc: Global, path: &[u8], tokens: &[Token]) -> Result<Unit, Memory>
+    ensures begun { IfOk result (λ unit. unit_of unit ≡ begun no_unit path.now tokens.now) }
     ensures empty { IfOk result (λ unit. unit.tokens ≡ []) }
 {
     let mut paths = Names::new(alloc);
     let _number = paths.put(path)?;
+    let mut names = NameTable::new(alloc);
+    names.push(names_in(alloc, tokens)?)?;
     let mut complete = Vec::new(alloc);
     complete.push(None)?;
     Ok(Unit {
         alloc,
         tokens: Sequence::new(alloc),
         paths,
+        names,
         complete,
         headers: NumberList::new(alloc),
         budget: MOST_REPLACEMENTS,
@@ -104,9 +111,9 @@ fn start(alloc: Global, path: &[u8], file: Loaded) -> Result<Walk, Memory>
     ensures remembers { IfOk result WalkRemembers }
 {
     Ok(Walk {
-        unit: begin(alloc, path)?,
+        unit: begin(alloc, path, file.tokens.as_slice())?,
         stack: Vec::new(alloc),
-        current: open_file(alloc, Text::from_bytes(alloc, path)?, file)?,
+        current: open_file(alloc, Text::from_bytes(alloc, path)?, file, 0)?,
     })
 }
 
@@ -117,9 +124,11 @@ fn counted(unit: Unit, end: Place) -> Result<UnitTokens, ExpandFault>
     if let Some(token) = unit.tokens.get(MOST_TOKENS) {
         return Err(ExpandFault::refusal(Rule::Size, token.place));
     }
+    let includes = includes_of(end.file, &unit)?;
     Ok(UnitTokens {
         tokens: unit.tokens,
         headers: unit.headers,
+        includes,
         end,
     })
 }

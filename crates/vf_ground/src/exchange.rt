@@ -52,7 +52,7 @@ fn are_level(bounds: &Bounds, x: u32, y: u32) -> bool
 }
 
 /// What classes and bounds lack at two terms.
-fn lack_at(classes: &Classes, bounds: &Bounds, x: u32, y: u32) -> Lack
+pub fn lack_at(classes: &Classes, bounds: &Bounds, x: u32, y: u32) -> Lack
     requires fine { HasNegativeCycle bounds.now.edges → ⊥ }
     requires size { bounds.now.size ≡ length classes.now.nodes }
     requires left { x < length classes.now.nodes }
@@ -76,49 +76,10 @@ fn lack_at(classes: &Classes, bounds: &Bounds, x: u32, y: u32) -> Lack
 
 /// Two terms at which something is lacking.
 #[derive(Clone, Copy)]
-pub struct Task {
-    pub left: u32,
-    pub right: u32,
-    pub lack: Lack,
-}
-
-/// The first term beside which another one lacks something.
-fn find_beside(classes: &Classes, bounds: &Bounds, x: u32) -> Option<Task>
-    requires fine { HasNegativeCycle bounds.now.edges → ⊥ }
-    requires size { bounds.now.size ≡ length classes.now.nodes }
-    requires left { x < length classes.now.nodes }
-    ensures { MatchOption result ((y : ℕ) → y < length classes.now.nodes → Agree classes.now.nodes classes.now.merged bounds.now.edges x y) (λ t. IsLacking classes.now.nodes classes.now.merged bounds.now.edges t.left t.right t.lack) }
-{
-    for y in 0..classes.size() {
-        match lack_at(classes, bounds, x, y) {
-            Lack::Nothing => {}
-            Lack::OfBound => return Some(Task {
-                left: x,
-                right: y,
-                lack: Lack::OfBound,
-            }),
-            Lack::OfEquality => return Some(Task {
-                left: x,
-                right: y,
-                lack: Lack::OfEquality,
-            }),
-        }
-    }
-    None
-}
-
-/// The first two terms at which something is lacking.
-pub fn find(classes: &Classes, bounds: &Bounds) -> Option<Task>
-    requires fine { HasNegativeCycle bounds.now.edges → ⊥ }
-    requires size { bounds.now.size ≡ length classes.now.nodes }
-    ensures { MatchOption result (AllAgree classes.now.nodes classes.now.merged bounds.now.edges) (λ t. IsLacking classes.now.nodes classes.now.merged bounds.now.edges t.left t.right t.lack) }
-{
-    for x in 0..classes.size() {
-        if let Some(task) = find_beside(classes, bounds, x) {
-            return Some(task);
-        }
-    }
-    None
+struct Task {
+    left: u32,
+    right: u32,
+    lack: Lack,
 }
 
 /// Gives classes and bounds what they lack at two terms.

@@ -11,6 +11,6 @@ mod gather;
 mod tests;
 mod verdict;
 
-pub use exchange::{Lack, Task, find};
+pub use exchange::{Lack, lack_at};
 pub use fine::{are_fine, numbers_are_small};
 pub use verdict::{Closed, close, contradicts, is_clash, is_refuted};

@@ -1,9 +1,11 @@
 //! Tables of questions.
 
-use crate::{Closed, are_fine, close, is_refuted, numbers_are_small};
+use crate::{Closed, Lack, are_fine, close, is_refuted, lack_at, numbers_are_small};
 use std::alloc::Global;
 use std::test::Fail;
+use vf_arith::Bounds;
 use vf_base::Memory;
+use vf_congruence::Classes;
 use vf_refute::Fact;
 use vf_table::{Head, Node, parts_are_below};
 
@@ -74,6 +76,31 @@ fn are_equal(alloc: Global, facts: &[Fact], a: u32, b: u32) -> Result<Option<boo
             }
             Ok(Some(classes.same(a, b)))
         }
+    }
+}
+
+/// Whether classes in which x and y are equal and bounds that say nothing lack nothing at two terms,
+/// none where a number is none of a term.
+fn lacks_nothing(alloc: Global, a: u32, b: u32) -> Result<Option<bool>, Memory> {
+    let nodes = terms(alloc)?;
+    if nodes.len() >= 4096 {
+        return Ok(None);
+    }
+    if !parts_are_below(&nodes) {
+        return Ok(None);
+    }
+    let mut classes = Classes::new(alloc, nodes)?;
+    let bounds = Bounds::new(alloc, classes.size())?;
+    if a >= classes.size() || b >= classes.size() || classes.size() < 3 {
+        return Ok(None);
+    }
+    classes.merge(1, 2)?;
+    if bounds.conflict() {
+        return Ok(None);
+    }
+    match lack_at(&classes, &bounds, a, b) {
+        Lack::Nothing => Ok(Some(true)),
+        _ => Ok(Some(false)),
     }
 }
 
@@ -176,5 +203,14 @@ fn questions_are_told_from_others(rt: HostRuntime) -> Result<(), Fail> {
     for facts in cases {
         assert_eq!(rt; verdict(rt.alloc(), facts)?, None);
     }
+    Ok(())
+}
+
+#[test]
+fn lacks_are_told(rt: HostRuntime) -> Result<(), Fail> {
+    assert_eq!(rt; lacks_nothing(rt.alloc(), 0, 1)?, Some(true));
+    assert_eq!(rt; lacks_nothing(rt.alloc(), 1, 2)?, Some(false));
+    assert_eq!(rt; lacks_nothing(rt.alloc(), 3, 4)?, Some(true));
+    assert_eq!(rt; lacks_nothing(rt.alloc(), 1, 17)?, None);
     Ok(())
 }

@@ -6,7 +6,8 @@ use Rattle.vf_declared.specs.declared.declaration.GhostDeclaration.TheVariants a
 use Rattle.vf_declared.specs.declared.scope.Scope.{Scope}
 use Rattle.vf_syntax.specs.declared.item.GhostParameter.{GhostParameter}
 use Rattle.vf_syntax.specs.declared.written.Name.{Name}
-use Rattle.vf_datatypes.specs.Datatypes.{with_ghost, with_next}
+use Rattle.vf_declared.specs.Writing.{with_ghost}
+use Rattle.vf_datatypes.specs.Datatypes.{with_next}
 use Rattle.vf_datatypes.specs.NewNames.{name_refusal}
 use Rattle.vf_datatypes.specs.Walking.{Gives, behind}
 use Rattle.vf_heads.specs.Heads.{constructor_behind, second_behind, with_predicate_constructor}

@@ -8,7 +8,8 @@ use Rattle.vf_syntax.specs.declared.item.GhostParameter.{GhostParameter}
 use Rattle.vf_syntax.specs.declared.written.Name.{Name}
 use Rattle.vf_sorting.specs.Answers.{Tells}
 use Rattle.vf_sorting.specs.Spelling.{written_sort}
-use Rattle.vf_datatypes.specs.Datatypes.{with_ghost, with_next}
+use Rattle.vf_declared.specs.Writing.{with_ghost}
+use Rattle.vf_datatypes.specs.Datatypes.{with_next}
 use Rattle.vf_datatypes.specs.NewNames.{name_refusal}
 use Rattle.vf_datatypes.specs.Walking.{Gives, behind}
 use Rattle.vf_heads.specs.Heads.{behind_index, family_behind, indexed, leaving, with_family}

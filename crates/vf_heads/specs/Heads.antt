@@ -9,7 +9,8 @@ use Rattle.vf_syntax.specs.declared.item.GhostParameter.{GhostParameter}
 use Rattle.vf_syntax.specs.declared.written.Name.{Name}
 use Rattle.vf_syntax.specs.SortTree.{SortTree}
 use Rattle.vf_sorting.specs.Spelling.{written_sort}
-use Rattle.vf_datatypes.specs.Datatypes.{with_ghost, with_next}
+use Rattle.vf_declared.specs.Writing.{with_ghost}
+use Rattle.vf_datatypes.specs.Datatypes.{with_next}
 use Rattle.vf_datatypes.specs.NewNames.{name_refusal}
 use Rattle.vf_datatypes.specs.NewNames as names
 use Rattle.vf_datatypes.specs.Walking.{behind, unless}

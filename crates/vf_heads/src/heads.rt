@@ -7,7 +7,7 @@ ghost use Rattle.vf_heads.specs.Heads as heads;
 use crate::parameters::{declare_named, declare_parameters};
 use std::alloc::Global;
 use vf_base::{RuleFault, Sequence};
-use vf_datatypes::declaring::{declare_ghost, declare_next};
+use vf_datatypes::declaring::declare_next;
 use vf_datatypes::names::{name_refusal, type_parameters};
 use vf_declared::declaration::{Family, Fixpoint, GhostDeclaration, PredicateConstructor};
 use vf_declared::scope::Scope;
@@ -32,8 +32,8 @@ fn declare_behind_index(
     let mut sorts = SortList::new(alloc);
     declare_parameters(alloc, scope, &Names::new(alloc), written, &mut sorts)?;
     scope.locals.leave(count);
-    declare_ghost(
-        scope,
+    scope.declare_ghost(
+        alloc,
         GhostDeclaration::Family(Family {
             index,
             arguments: sorts,
@@ -96,8 +96,8 @@ fn declare_second(
 {
     let mut second = SortList::new(alloc);
     declare_parameters(alloc, scope, &Names::new(alloc), written, &mut second)?;
-    declare_ghost(
-        scope,
+    scope.declare_ghost(
+        alloc,
         GhostDeclaration::PredicateConstructor(PredicateConstructor { first, second }),
     )?;
     Ok(())
@@ -145,8 +145,8 @@ fn declare_named_fixpoint(
     declare_next(alloc, scope, name)?;
     let mut sorts = SortList::new(alloc);
     declare_parameters(alloc, scope, type_parameters, written, &mut sorts)?;
-    declare_ghost(
-        scope,
+    scope.declare_ghost(
+        alloc,
         GhostDeclaration::Fixpoint(Fixpoint {
             parameters: type_parameters.len(),
             arguments: sorts,

@@ -108,6 +108,7 @@ fn scope(alloc: Global) -> Result<Scope, Stop> {
         sides: Stack::new(alloc),
         function_types: signatures(alloc)?,
         ghosts,
+        ghost_sides: Stack::new(alloc),
         datatypes: Sequence::new(alloc),
     })
 }

@@ -1,6 +1,6 @@
 use std::alloc::Global;
 use std::test::Fail;
-use vf_base::{Memory, NumberList, Place};
+use vf_base::{Memory, NumberList, Place, Sequence};
 use vf_copy::item::copy_unit;
 use vf_expand::UnitTokens;
 use vf_lexer::{TokenList, lex};
@@ -56,6 +56,7 @@ fn tree(alloc: Global, tokens: TokenList) -> Result<Unit, ParseFault> {
     let unit = UnitTokens {
         tokens,
         headers,
+        includes: Sequence::new(alloc),
         end,
     };
     parse(alloc, &unit)

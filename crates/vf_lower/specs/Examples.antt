@@ -46,6 +46,7 @@ scope = record {
   sides = [];
   function_types = [];
   ghosts = [];
+  ghost_sides = [];
   datatypes = [];
 }
 

@@ -1,24 +1,24 @@
-//! Calls.
+//! Calls, and the types of what stands behind an operand.
 
 ghost use Rattle.std.specs.Prelude.{◌≡◌};
 ghost use Rattle.std.specs.Option.{option_copied};
 ghost use Rattle.vf_syntax.specs.ExprTree.{postfix_list};
 ghost use Rattle.vf_typing.specs.Parts.{called, free_place, means_free};
 ghost use Rattle.vf_steps.specs.Shown.{action_of, value_of, values_of};
-ghost use Rattle.vf_lower.specs.Expressions.{argument_of, call_of, called_with, free_step, function_type_in, only_argument, part_type, result_of, void_call};
+ghost use Rattle.vf_lower.specs.Expressions.{argument_of, call_of, called_with, free_step, function_type_in, link_type, only_argument, part_type, result_of, void_call};
 ghost use Rattle.vf_lower.specs.Shown.{access_of, outcome_of, setting_of};
 ghost use Rattle.vf_lower.specs.Did.{Does};
 
 use crate::draft::Draft;
 use crate::operand::{Access, Outcome};
-use crate::operator::is_void;
-use crate::setting::{Setting, structure_in};
+use crate::operator::{is_void, result_type};
+use crate::setting::{Setting, find_kind, structure_in};
 use vf_base::{IntType, Memory, Place, Sequence, Text};
 use vf_declared::ctype::CType;
 use vf_declared::declaration::Signature;
 use vf_declared::scope::Scope;
 use vf_steps::{Action, Value};
-use vf_syntax::expr::{Expr, ExprNode, Postfix, PostfixList, PostfixNode};
+use vf_syntax::expr::{Expr, ExprNode, Link, Postfix, PostfixList, PostfixNode};
 
 /// What is called: a function by its name, or what a pointer to functions points to.
 pub fn called(scope: &Scope, ctype: CType) -> Option<&Signature>
@@ -60,8 +60,19 @@ pub fn part_type(setting: &Setting<'_>, ctype: CType, part: &Postfix) -> CType
     }
 }
 
+/// The type of an operator's result behind a left operand of a type.
+pub fn link_type(setting: &Setting<'_>, ctype: CType, link: &Link) -> CType
+    ensures { result ≡ link_type (setting_of setting.now) ctype link.now }
+{
+    result_type(
+        link.operator,
+        ctype,
+        find_kind(setting, &link.operand).ctype,
+    )
+}
+
 /// The step that frees what a value of a type points to, at the word `free`.
-pub fn free_step(ctype: CType, pointer: Value, place: Place) -> Action
+pub fn free_step<'a>(ctype: CType, pointer: Value, place: Place) -> Action<'a>
     ensures { action_of result ≡ free_step ctype (value_of pointer) place }
 {
     match ctype {
@@ -95,7 +106,12 @@ fn call_of(ctype: CType, callee: Value, arguments: Sequence<Value>, place: Place
 }
 
 /// A call at a place that gives nothing.
-fn void_call(ctype: CType, callee: Value, arguments: Sequence<Value>, place: Place) -> Action
+fn void_call<'a>(
+    ctype: CType,
+    callee: Value,
+    arguments: Sequence<Value>,
+    place: Place,
+) -> Action<'a>
     ensures { action_of result ≡ void_call ctype (value_of callee) (values_of arguments) place }
 {
     match ctype {
@@ -118,7 +134,7 @@ fn void_call(ctype: CType, callee: Value, arguments: Sequence<Value>, place: Pla
 /// A call at a place whose operands are evaluated.
 pub fn called_with(
     setting: &Setting<'_>,
-    draft: &mut Draft,
+    draft: &mut Draft<'_>,
     place: Place,
     ctype: CType,
     callee: Value,

@@ -20,7 +20,7 @@ use vf_steps::{Action, Value};
 /// Puts one of two values into a local of a type, and reads it there at a place.
 pub fn selected(
     setting: &Setting<'_>,
-    draft: &mut Draft,
+    draft: &mut Draft<'_>,
     test: Test,
     ctype: CType,
     so: Value,
@@ -66,7 +66,7 @@ pub fn is_set(ctype: CType, value: Value) -> Test
 /// Makes a value of a type a truth value at a place.
 pub fn as_truth(
     setting: &Setting<'_>,
-    draft: &mut Draft,
+    draft: &mut Draft<'_>,
     ctype: CType,
     value: Value,
     place: Place,
@@ -125,7 +125,7 @@ fn is_bool(of: IntType) -> bool
 /// Converts a value of an integer type to another at a place.
 fn converted(
     setting: &Setting<'_>,
-    draft: &mut Draft,
+    draft: &mut Draft<'_>,
     from: IntType,
     to: IntType,
     value: Value,
@@ -155,7 +155,7 @@ fn converted(
 /// Makes a value of a kind pass for one of a type at a place.
 pub fn adapted(
     setting: &Setting<'_>,
-    draft: &mut Draft,
+    draft: &mut Draft<'_>,
     ctype: CType,
     kind: Kind,
     value: Value,

@@ -16,15 +16,15 @@ use vf_steps::{Action, Node};
 
 /// The nodes of a body so far, and the types of its locals so far.
 #[derive(Drop)]
-pub struct Draft {
+pub struct Draft<'a> {
     pub locals: Sequence<CType>,
-    pub nodes: Vec<Node>,
+    pub nodes: Vec<Node<'a>>,
 }
 
-impl Draft {
+impl<'a> Draft<'a> {
     /// Adds a node of the statement at a place.
-    pub fn add(&mut self, statement: Place, action: Action) -> Result<(), Memory>
-        ensures { Does (λ u. tt) (does statement (action_of action)) self.old self.new result }
+    pub fn add(&mut self, statement: Place, action: Action<'a>) -> Result<(), Memory>
+        ensures { Does (λ u. tt) (does statement (action_of action.entry)) self.old self.new result }
     {
         self.nodes.push(Node { statement, action })?;
         Ok(())
@@ -40,7 +40,7 @@ impl Draft {
     }
 
     /// A draft of the same locals without nodes, which goes on in place of this one.
-    pub fn aside(&mut self, alloc: Global) -> Draft
+    pub fn aside(&mut self, alloc: Global) -> Draft<'a>
         ensures locals { result.locals ≡ self.old.locals }
         ensures nodes { result.nodes.items ≡ [] }
         ensures kept { self.new.nodes ≡ self.old.nodes }
@@ -53,8 +53,8 @@ impl Draft {
     }
 
     /// Adds the nodes of another draft.
-    fn append(&mut self, mut nodes: Vec<Node>) -> Result<(), Memory>
-        ensures nodes { OnOk result (drawn self.new ≡ drawn self.old ++ nodes_of nodes.items) }
+    pub fn append(&mut self, mut nodes: Vec<Node<'a>>) -> Result<(), Memory>
+        ensures nodes { OnOk result (drawn self.new ≡ drawn self.old ++ nodes_of nodes.entry.items) }
         ensures locals { OnOk result (self.new.locals ≡ self.old.locals) }
     {
         self.nodes.append(&mut nodes)?;
@@ -67,11 +67,11 @@ impl Draft {
         &mut self,
         statement: Place,
         test: Test,
-        mut first: Vec<Node>,
-        second: Draft,
+        mut first: Vec<Node<'a>>,
+        second: Draft<'a>,
     ) -> Result<(), Memory>
-        ensures nodes { OnOk result (drawn self.new ≡ drawn self.old ++ (node statement (if_step (test_of test) (length (nodes_of first.items) + 1)) ∷ nodes_of first.items ++ node statement (steps.jump (length (drawn second))) ∷ drawn second)) }
-        ensures locals { OnOk result (self.new.locals ≡ second.locals) }
+        ensures nodes { OnOk result (drawn self.new ≡ drawn self.old ++ (node statement (if_step (test_of test) (length (nodes_of first.entry.items) + 1)) ∷ nodes_of first.entry.items ++ node statement (steps.jump (length (drawn second.entry))) ∷ drawn second.entry)) }
+        ensures locals { OnOk result (self.new.locals ≡ second.entry.locals) }
     {
         let Draft { locals, nodes } = second;
         first.push(Node {

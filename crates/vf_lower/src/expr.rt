@@ -15,31 +15,29 @@ ghost use Rattle.vf_lower.specs.Expressions as lowering;
 ghost use Rattle.vf_lower.specs.Shown.{left_of, outcome_of, setting_of, test_of};
 ghost use Rattle.vf_lower.specs.Did.{Does};
 
-use crate::call::{called, called_with, free_name, free_step, only_argument, part_type};
+use crate::call::{called, called_with, free_name, free_step, link_type, only_argument, part_type};
 use crate::convert::{adapted, as_truth};
 use crate::draft::Draft;
 use crate::operand::{
-    Access, Left, Outcome, as_test, as_value, left_passed, left_test, left_value, set_local,
+    Access, Left, Outcome, as_test, as_value, computed, field, left_passed, left_test, left_value,
+    offset, set_local,
 };
-use crate::operator::{
-    arithmetic_operator, compared_type, comparison_of, is_int_pointer, is_sum, result_type,
-};
-use crate::setting::{Setting, field_number, find_kind, integer_in, named, place_of, tag_number};
+use crate::operator::{compared_type, comparison_of, is_int_pointer, is_sum, result_type};
+use crate::setting::{Setting, find_kind, integer_in, named, place_of, tag_number};
 use crate::test::Test;
 use vf_base::{IntType, Memory, Place, Sequence};
 use vf_ctypes::promote;
 use vf_declared::ctype::CType;
 use vf_declared::declaration::Signature;
-use vf_steps::{Action, Value};
+use vf_steps::Value;
 use vf_syntax::expr::{
     Expr, ExprList, ExprNode, Link, LinkList, Postfix, PostfixList, PostfixNode,
 };
 use vf_syntax::operator::{BinaryOperator, UnaryOperator};
-use vf_syntax::written::Name;
 
 /// An expression as a value.
 #[cycle(expr)]
-pub fn valued(setting: &Setting<'_>, draft: &mut Draft, expr: &Expr) -> Result<Value, Memory>
+pub fn valued(setting: &Setting<'_>, draft: &mut Draft<'_>, expr: &Expr) -> Result<Value, Memory>
     ensures { Does value_of (lowering.value (setting_of setting.now) expr.now) draft.old draft.new result }
 {
     let outcome = lowered(setting, draft, expr)?;
@@ -54,7 +52,7 @@ pub fn valued(setting: &Setting<'_>, draft: &mut Draft, expr: &Expr) -> Result<V
 
 /// An expression as a test.
 #[cycle(expr)]
-pub fn tested(setting: &Setting<'_>, draft: &mut Draft, expr: &Expr) -> Result<Test, Memory>
+pub fn tested(setting: &Setting<'_>, draft: &mut Draft<'_>, expr: &Expr) -> Result<Test, Memory>
     ensures { Does test_of (lowering.condition (setting_of setting.now) expr.now) draft.old draft.new result }
 {
     let outcome = lowered(setting, draft, expr)?;
@@ -71,7 +69,7 @@ pub fn tested(setting: &Setting<'_>, draft: &mut Draft, expr: &Expr) -> Result<T
 #[cycle(expr)]
 pub fn passed(
     setting: &Setting<'_>,
-    draft: &mut Draft,
+    draft: &mut Draft<'_>,
     ctype: CType,
     expr: &Expr,
 ) -> Result<Value, Memory>
@@ -92,7 +90,7 @@ pub fn passed(
 #[cycle(expr)]
 fn truth_into(
     setting: &Setting<'_>,
-    draft: &mut Draft,
+    draft: &mut Draft<'_>,
     local: usize,
     expr: &Expr,
 ) -> Result<(), Memory>
@@ -113,7 +111,7 @@ fn truth_into(
 #[cycle(expr)]
 fn passed_into(
     setting: &Setting<'_>,
-    draft: &mut Draft,
+    draft: &mut Draft<'_>,
     local: usize,
     ctype: CType,
     expr: &Expr,
@@ -128,7 +126,7 @@ fn passed_into(
 #[cycle(expr)]
 fn negative(
     setting: &Setting<'_>,
-    draft: &mut Draft,
+    draft: &mut Draft<'_>,
     place: Place,
     operand: &Expr,
 ) -> Result<Outcome, Memory>
@@ -147,7 +145,7 @@ fn negative(
 #[cycle(expr)]
 fn prefixed(
     setting: &Setting<'_>,
-    draft: &mut Draft,
+    draft: &mut Draft<'_>,
     place: Place,
     operator: UnaryOperator,
     operand: &Expr,
@@ -167,7 +165,7 @@ fn prefixed(
 #[cycle(expr)]
 fn arithmetic(
     setting: &Setting<'_>,
-    draft: &mut Draft,
+    draft: &mut Draft<'_>,
     place: Place,
     left: Left,
     at: Place,
@@ -179,20 +177,14 @@ fn arithmetic(
     let ctype = result_type(operator, left.kind.ctype, find_kind(setting, operand).ctype);
     let first = left_passed(setting, draft, place, ctype, left)?;
     let second = passed(setting, draft, ctype, operand)?;
-    Ok(Outcome::Is(Value::Arithmetic {
-        operator: arithmetic_operator(operator),
-        of: integer_in(ctype),
-        left: Box::new(setting.alloc, first)?,
-        right: Box::new(setting.alloc, second)?,
-        place: at,
-    }))
+    computed(setting, operator, ctype, first, second, at)
 }
 
 /// A pointer sum, at the `+`.
 #[cycle(expr)]
 fn pointer_sum(
     setting: &Setting<'_>,
-    draft: &mut Draft,
+    draft: &mut Draft<'_>,
     place: Place,
     left: Left,
     at: Place,
@@ -202,24 +194,14 @@ fn pointer_sum(
 {
     let pointer = left_value(setting, draft, place, left)?;
     let by = valued(setting, draft, operand)?;
-    let local = draft.take(CType::IntPointer)?;
-    draft.add(
-        setting.statement,
-        Action::Offset {
-            local,
-            pointer,
-            by,
-            place: at,
-        },
-    )?;
-    Ok(Outcome::Is(Value::Read { local, place }))
+    offset(setting, draft, pointer, by, at, place)
 }
 
 /// A sum and its like.
 #[cycle(expr)]
 fn sum(
     setting: &Setting<'_>,
-    draft: &mut Draft,
+    draft: &mut Draft<'_>,
     place: Place,
     left: Left,
     at: Place,
@@ -239,7 +221,7 @@ fn sum(
 #[cycle(expr)]
 fn compared(
     setting: &Setting<'_>,
-    draft: &mut Draft,
+    draft: &mut Draft<'_>,
     place: Place,
     left: Left,
     operator: BinaryOperator,
@@ -258,7 +240,7 @@ fn compared(
 #[cycle(expr)]
 fn both(
     setting: &Setting<'_>,
-    draft: &mut Draft,
+    draft: &mut Draft<'_>,
     place: Place,
     left: Left,
     operand: &Expr,
@@ -279,7 +261,7 @@ fn both(
 #[cycle(expr)]
 fn one_of(
     setting: &Setting<'_>,
-    draft: &mut Draft,
+    draft: &mut Draft<'_>,
     place: Place,
     left: Left,
     operand: &Expr,
@@ -300,7 +282,7 @@ fn one_of(
 #[cycle(expr)]
 pub fn joined(
     setting: &Setting<'_>,
-    draft: &mut Draft,
+    draft: &mut Draft<'_>,
     place: Place,
     left: Left,
     at: Place,
@@ -326,7 +308,7 @@ pub fn joined(
 #[cycle(expr)]
 fn linked(
     setting: &Setting<'_>,
-    draft: &mut Draft,
+    draft: &mut Draft<'_>,
     place: Place,
     left: Left,
     link: &Link,
@@ -348,7 +330,7 @@ fn linked(
 #[cycle(expr)]
 fn choice(
     setting: &Setting<'_>,
-    draft: &mut Draft,
+    draft: &mut Draft<'_>,
     place: Place,
     ctype: CType,
     test: Test,
@@ -366,23 +348,12 @@ fn choice(
     Ok(Outcome::Is(Value::Read { local, place }))
 }
 
-/// The type of an operator's result behind a left operand of a type.
-fn link_type(setting: &Setting<'_>, ctype: CType, link: &Link) -> CType
-    ensures { result ≡ lowering.link_type (setting_of setting.now) ctype link.now }
-{
-    result_type(
-        link.operator,
-        ctype,
-        find_kind(setting, &link.operand).ctype,
-    )
-}
-
 /// Operators and their operands behind a left operand, from left to right.
 #[cycle(expr)]
 #[tactic(auto, using(crate::proofs::Lists::link_smaller))]
 fn links(
     setting: &Setting<'_>,
-    draft: &mut Draft,
+    draft: &mut Draft<'_>,
     place: Place,
     start: Left,
     items: &LinkList,
@@ -404,7 +375,7 @@ fn links(
 #[cycle(expr)]
 fn chain(
     setting: &Setting<'_>,
-    draft: &mut Draft,
+    draft: &mut Draft<'_>,
     place: Place,
     start: &Expr,
     items: &LinkList,
@@ -424,7 +395,7 @@ fn chain(
 #[tactic(auto, using(crate::proofs::Lists::expr_smaller))]
 fn arguments(
     setting: &Setting<'_>,
-    draft: &mut Draft,
+    draft: &mut Draft<'_>,
     parameters: &Sequence<CType>,
     items: &ExprList,
 ) -> Result<Sequence<Value>, Memory>
@@ -448,7 +419,7 @@ fn arguments(
 #[cycle(expr)]
 fn call_arguments(
     setting: &Setting<'_>,
-    draft: &mut Draft,
+    draft: &mut Draft<'_>,
     signature: Option<&Signature>,
     items: &ExprList,
 ) -> Result<Sequence<Value>, Memory>
@@ -464,7 +435,7 @@ fn call_arguments(
 #[cycle(expr)]
 fn call(
     setting: &Setting<'_>,
-    draft: &mut Draft,
+    draft: &mut Draft<'_>,
     place: Place,
     left: Left,
     items: &ExprList,
@@ -481,7 +452,7 @@ fn call(
 #[cycle(expr)]
 fn element(
     setting: &Setting<'_>,
-    draft: &mut Draft,
+    draft: &mut Draft<'_>,
     place: Place,
     left: Left,
     at: Place,
@@ -494,27 +465,11 @@ fn element(
     Ok(Outcome::Awaits(Access::LoadAt(pointer, index, at)))
 }
 
-/// A field behind a left operand at a place, at the `->`.
-fn field(
-    setting: &Setting<'_>,
-    draft: &mut Draft,
-    place: Place,
-    left: Left,
-    at: Place,
-    name: &Name,
-) -> Result<Outcome, Memory>
-    ensures { Does outcome_of (lowering.part (setting_of setting.now) place (left_of left) (syntax.field_ at name.now)) draft.old draft.new result }
-{
-    let field = field_number(setting, left.kind.ctype, name);
-    let pointer = left_value(setting, draft, place, left)?;
-    Ok(Outcome::Awaits(Access::Load(pointer, field, at)))
-}
-
 /// A read or call behind a left operand at a place.
 #[cycle(expr)]
 fn part_behind(
     setting: &Setting<'_>,
-    draft: &mut Draft,
+    draft: &mut Draft<'_>,
     place: Place,
     left: Left,
     part: &Postfix,
@@ -533,7 +488,7 @@ fn part_behind(
 #[tactic(auto, using(crate::proofs::Lists::postfix_smaller))]
 fn parts(
     setting: &Setting<'_>,
-    draft: &mut Draft,
+    draft: &mut Draft<'_>,
     place: Place,
     start: Left,
     items: &PostfixList,
@@ -555,7 +510,7 @@ fn parts(
 #[cycle(expr)]
 fn freed(
     setting: &Setting<'_>,
-    draft: &mut Draft,
+    draft: &mut Draft<'_>,
     at: Place,
     argument: &Expr,
 ) -> Result<Outcome, Memory>
@@ -571,7 +526,7 @@ fn freed(
 #[cycle(expr)]
 fn parts_behind(
     setting: &Setting<'_>,
-    draft: &mut Draft,
+    draft: &mut Draft<'_>,
     place: Place,
     start: &Expr,
     items: &PostfixList,
@@ -591,7 +546,7 @@ fn parts_behind(
 #[tactic(auto, using(crate::proofs::Calls::argument_smaller))]
 fn postfix(
     setting: &Setting<'_>,
-    draft: &mut Draft,
+    draft: &mut Draft<'_>,
     place: Place,
     start: &Expr,
     items: &PostfixList,
@@ -609,7 +564,7 @@ fn postfix(
 
 /// What an expression becomes.
 #[cycle(expr)]
-pub fn lowered(setting: &Setting<'_>, draft: &mut Draft, expr: &Expr) -> Result<Outcome, Memory>
+pub fn lowered(setting: &Setting<'_>, draft: &mut Draft<'_>, expr: &Expr) -> Result<Outcome, Memory>
     ensures { Does outcome_of (lowering.outcome (setting_of setting.now) expr.now) draft.old draft.new result }
 {
     match &expr.node {

@@ -15,10 +15,12 @@ mod operator;
 mod setting;
 mod test;
 
+pub use convert::adapted;
 pub use draft::Draft;
-pub use expr::{lowered, passed, tested, valued};
-pub use operand::{Access, Left, Outcome};
-pub use setting::{Kind, Setting};
+pub use expr::{joined, lowered, passed, tested, valued};
+pub use operand::{Access, Left, Outcome, as_value, left_passed, set_local};
+pub use operator::{is_void, result_type};
+pub use setting::{Kind, Setting, find_kind, place_of};
 pub use test::Test;
 
 #[cfg(test)]

@@ -1,20 +1,27 @@
 //! What is left of an expression: a value, a test that tells a truth value, or what a step is still to put somewhere.
 
-ghost use Rattle.std.specs.Prelude.{◌≡◌};
+ghost use Rattle.std.specs.Prelude.{◌≡◌, IfOk};
+ghost use Rattle.vf_declared.specs.declared.ctype.CType.TheVariants as types;
 ghost use Rattle.vf_steps.specs.Shown.{action_of, value_of};
+ghost use Rattle.vf_syntax.specs.ExprTree as syntax;
 ghost use Rattle.vf_steps.specs.Tree as steps;
-ghost use Rattle.vf_lower.specs.Lowering.{does};
-ghost use Rattle.vf_lower.specs.Operands.{as_test, as_value, awaits, into, left, left_passed, left_value};
+ghost use Rattle.vf_lower.specs.Lowering.{does, gives, taken, ◌⨾◌};
+ghost use Rattle.vf_lower.specs.Settings.{integer_in};
+ghost use Rattle.vf_lower.specs.Operands.{arithmetic_operator, as_test, as_value, awaits, into, is, left, left_passed, left_value};
+ghost use Rattle.vf_lower.specs.Expressions.{part};
 ghost use Rattle.vf_lower.specs.Shown.{access_of, left_of, outcome_of, setting_of, test_of};
 ghost use Rattle.vf_lower.specs.Did.{Does};
 
 use crate::convert::{adapted, is_set, selected};
 use crate::draft::Draft;
-use crate::setting::{Kind, Setting};
+use crate::operator::arithmetic_operator;
+use crate::setting::{Kind, Setting, field_number, integer_in};
 use crate::test::Test;
 use vf_base::{IntType, Memory, Place, Sequence};
 use vf_declared::ctype::CType;
 use vf_steps::{Action, FieldNumber, Value};
+use vf_syntax::operator::BinaryOperator;
+use vf_syntax::written::Name;
 
 /// An access to memory or a call whose result is still to be put into a local.
 #[derive(Drop)]
@@ -35,7 +42,7 @@ pub enum Access {
 
 impl Access {
     /// The step that puts its result into a local.
-    pub fn into_step(self, local: usize) -> Action
+    pub fn into_step<'a>(self, local: usize) -> Action<'a>
         ensures { action_of result ≡ into local (access_of self) }
     {
         match self {
@@ -112,7 +119,7 @@ impl Left {
 /// Puts a result into a new local of a type, and reads it there at a place.
 fn read_result(
     setting: &Setting<'_>,
-    draft: &mut Draft,
+    draft: &mut Draft<'_>,
     ctype: CType,
     place: Place,
     access: Access,
@@ -127,7 +134,7 @@ fn read_result(
 /// What is left as a value of a type at a place.
 pub fn as_value(
     setting: &Setting<'_>,
-    draft: &mut Draft,
+    draft: &mut Draft<'_>,
     ctype: CType,
     place: Place,
     outcome: Outcome,
@@ -156,7 +163,7 @@ pub fn as_value(
 /// What is left as a test of a value of a type at a place.
 pub fn as_test(
     setting: &Setting<'_>,
-    draft: &mut Draft,
+    draft: &mut Draft<'_>,
     ctype: CType,
     place: Place,
     outcome: Outcome,
@@ -175,7 +182,7 @@ pub fn as_test(
 /// A left operand at a place as a value.
 pub fn left_value(
     setting: &Setting<'_>,
-    draft: &mut Draft,
+    draft: &mut Draft<'_>,
     place: Place,
     left: Left,
 ) -> Result<Value, Memory>
@@ -188,7 +195,7 @@ pub fn left_value(
 /// A left operand at a place as a value that passes for one of a type.
 pub fn left_passed(
     setting: &Setting<'_>,
-    draft: &mut Draft,
+    draft: &mut Draft<'_>,
     place: Place,
     ctype: CType,
     left: Left,
@@ -203,7 +210,7 @@ pub fn left_passed(
 /// A left operand at a place as a test.
 pub fn left_test(
     setting: &Setting<'_>,
-    draft: &mut Draft,
+    draft: &mut Draft<'_>,
     place: Place,
     left: Left,
 ) -> Result<Test, Memory>
@@ -213,10 +220,70 @@ pub fn left_test(
     as_test(setting, draft, kind.ctype, place, outcome)
 }
 
+/// A field behind a left operand at a place, at the `->`.
+pub fn field(
+    setting: &Setting<'_>,
+    draft: &mut Draft<'_>,
+    place: Place,
+    left: Left,
+    at: Place,
+    name: &Name,
+) -> Result<Outcome, Memory>
+    ensures { Does outcome_of (part (setting_of setting.now) place (left_of left) (syntax.field_ at name.now)) draft.old draft.new result }
+{
+    let field = field_number(setting, left.kind.ctype, name);
+    let pointer = left_value(setting, draft, place, left)?;
+    Ok(Outcome::Awaits(Access::Load(pointer, field, at)))
+}
+
+/// An operator at a place between two values of a type.
+pub fn computed(
+    setting: &Setting<'_>,
+    operator: BinaryOperator,
+    ctype: CType,
+    left: Value,
+    right: Value,
+    place: Place,
+) -> Result<Outcome, Memory>
+    ensures { IfOk result (λ outcome. outcome_of outcome ≡ is (steps.arithmetic (arithmetic_operator operator) (integer_in ctype) (value_of left) (value_of right) place)) }
+{
+    Ok(Outcome::Is(Value::Arithmetic {
+        operator: arithmetic_operator(operator),
+        of: integer_in(ctype),
+        left: Box::new(setting.alloc, left)?,
+        right: Box::new(setting.alloc, right)?,
+        place,
+    }))
+}
+
+/// Puts a pointer with a greater offset, at the `+`, into a new local, and reads it there at a place.
+pub fn offset(
+    setting: &Setting<'_>,
+    draft: &mut Draft<'_>,
+    pointer: Value,
+    by: Value,
+    at: Place,
+    place: Place,
+) -> Result<Outcome, Memory>
+    ensures { Does outcome_of (taken types.IntPointer ⨾ λ k. does setting.now.statement (steps.offset k (value_of pointer) (value_of by) at) ⨾ λ u. gives (is (steps.read k place))) draft.old draft.new result }
+{
+    let local = draft.take(CType::IntPointer)?;
+    draft.add(
+        setting.statement,
+        Action::Offset {
+            local,
+            pointer,
+            by,
+            place: at,
+        },
+    )?;
+    Ok(Outcome::Is(Value::Read { local, place }))
+}
+
 /// Puts a value into a local, in the nodes of a draft.
 pub fn set_local(
     setting: &Setting<'_>,
-    draft: &mut Draft,
+    draft: &mut Draft<'_>,
     local: usize,
     value: Value,
 ) -> Result<(), Memory>

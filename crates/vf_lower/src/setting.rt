@@ -7,11 +7,11 @@ ghost use Rattle.vf_lower.specs.Settings.{declared_value, field_number, index_in
 ghost use Rattle.vf_lower.specs.Shown.{kind_of, setting_of};
 
 use std::alloc::Global;
-use vf_base::{IntType, Place, Sequence, Text};
+use vf_base::{IntType, Place, Text};
 use vf_declared::ctype::CType;
 use vf_declared::declaration::Meaning;
-use vf_declared::lookup::at_name;
 use vf_declared::scope::Scope;
+use vf_declared::stack::Stack;
 use vf_steps::{FieldNumber, Value};
 use vf_syntax::expr::Expr;
 use vf_syntax::written::Name;
@@ -22,7 +22,7 @@ use vf_typing::typed;
 #[derive(Clone, Copy)]
 pub struct Setting<'a> {
     pub scope: &'a Scope,
-    pub numbers: &'a Sequence<usize>,
+    pub numbers: &'a Stack<usize>,
     pub statement: Place,
     pub alloc: Global,
 }
@@ -121,7 +121,8 @@ fn declared_value(meaning: Option<Meaning>) -> Value
 pub fn local_number(setting: &Setting<'_>, name: &Text) -> Option<usize>
     ensures { result ≡ local_number (setting_of setting.now) name.now }
 {
-    at_name(&setting.scope.locals.names, setting.numbers, name).copied()
+    let number = setting.scope.locals.names.number(name.as_bytes())?;
+    setting.numbers.get(number).copied()
 }
 
 /// A name at a place as a value.

@@ -49,7 +49,7 @@ impl Test {
     }
 
     /// The step that goes on where it holds, and else skips so many nodes.
-    pub fn into_if(self, skipped: usize) -> Action
+    pub fn into_if<'a>(self, skipped: usize) -> Action<'a>
         ensures { action_of result ≡ if_step (test_of self) skipped }
     {
         let (so, otherwise) = if self.is_opposite {

@@ -66,12 +66,13 @@ fn nothing(alloc: Global) -> Scope {
         sides: Stack::new(alloc),
         function_types: Sequence::new(alloc),
         ghosts: Sequence::new(alloc),
+        ghost_sides: Stack::new(alloc),
         datatypes: Sequence::new(alloc),
     }
 }
 
 /// A draft of nothing.
-fn empty(alloc: Global) -> Draft {
+fn empty<'a>(alloc: Global) -> Draft<'a> {
     Draft {
         locals: Sequence::new(alloc),
         nodes: Vec::new(alloc),
@@ -81,7 +82,7 @@ fn empty(alloc: Global) -> Draft {
 /// What becomes of `7 < 8` as a value: whether it is read from the first local, how many nodes there are, and locals.
 fn as_value(alloc: Global) -> Result<(bool, usize, usize), Memory> {
     let scope = nothing(alloc);
-    let numbers = Sequence::new(alloc);
+    let numbers = Stack::new(alloc);
     let setting = Setting {
         scope: &scope,
         numbers: &numbers,
@@ -101,7 +102,7 @@ fn as_value(alloc: Global) -> Result<(bool, usize, usize), Memory> {
 /// What becomes of `7 < 8` as a test: whether it is a comparison as it stands, and how many nodes there are.
 fn as_test(alloc: Global) -> Result<(bool, usize), Memory> {
     let scope = nothing(alloc);
-    let numbers = Sequence::new(alloc);
+    let numbers = Stack::new(alloc);
     let setting = Setting {
         scope: &scope,
         numbers: &numbers,
@@ -118,7 +119,7 @@ fn as_test(alloc: Global) -> Result<(bool, usize), Memory> {
 /// What becomes of `7` as a `bool`: how many nodes there are, and locals.
 fn as_truth(alloc: Global) -> Result<(usize, usize), Memory> {
     let scope = nothing(alloc);
-    let numbers = Sequence::new(alloc);
+    let numbers = Stack::new(alloc);
     let setting = Setting {
         scope: &scope,
         numbers: &numbers,
@@ -138,7 +139,7 @@ fn as_truth(alloc: Global) -> Result<(usize, usize), Memory> {
 /// Whether `7` is left as it is.
 fn as_it_is(alloc: Global) -> Result<bool, Memory> {
     let scope = nothing(alloc);
-    let numbers = Sequence::new(alloc);
+    let numbers = Stack::new(alloc);
     let setting = Setting {
         scope: &scope,
         numbers: &numbers,

@@ -6,3 +6,4 @@ pub mod Joining
 pub mod Grouping
 pub mod Ending
 pub mod Rejoining
+pub mod Naming

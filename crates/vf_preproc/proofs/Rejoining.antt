@@ -1,20 +1,21 @@
 -- What a header that has joined a file leaves to do for a further include of it.
-use Rattle.std.proofs.Common.{◌≡◌, ◌<◌, ◌≤◌, ◌⊎◌, inl, inr, ⊎_elim, ℕ, zero, suc, ◌+◌, arith, refl, sym, ap, subst, ◌∙◌, cond, Bool, true, false, not, ◌&&◌, ◌||◌, List, [], ◌∷◌, ◌++◌, length, fold, slice_get, Option, Some, None, is_some, Result, Ok, Err, IsTrue}
+use Rattle.std.proofs.Common.{◌≡◌, ◌<◌, ◌≤◌, ◌⊎◌, inl, inr, ⊎_elim, ℕ, zero, suc, ◌+◌, arith, refl, sym, ap, subst, ◌∙◌, cond, Bool, true, false, not, ◌&&◌, ◌||◌, List, [], ◌∷◌, ◌++◌, length, fold, slice_get, nat_eq, Option, Some, None, is_some, Result, Ok, Err, IsTrue}
 use Rattle.std.specs.List.{list_any, position_from}
 use Rattle.std.specs.Str.{bytes_eq}
 use Rattle.std.specs.Cmp.Lexicographic.{bytes_decides}
 use Rattle.std.proofs.lemmas.List.{length-append}
+use Rattle.std.proofs.lemmas.List.Folds.{list_any-append}
 use Rattle.std.proofs.lemmas.Option.{slice_get_within}
-use Rattle.std.proofs.lemmas.Bool.{cases_order}
+use Rattle.std.proofs.lemmas.Bool.{cases_order, cond-true, eq-eqb}
 use Rattle.vf_base.specs.declared.place.Place.{Place}
 use Rattle.vf_lexer.specs.declared.token.Token.{Token}
-use Rattle.vf_names.specs.Names.{number_of, put, put_found}
+use Rattle.vf_names.specs.Names.{number_of}
 use Rattle.vf_names.proofs.Numbering.{found-push, missed-push, name_there, number_of-push}
 use Rattle.vf_preproc.specs.declared.join.Join.{Join}
 use Rattle.vf_preproc.specs.Macros.{Table, body, body_of, body_found, with_macro}
 use Rattle.vf_preproc.specs.Directives.{Fault, ◌>>=◌, defined, is_alike, no_directive}
-use Rattle.vf_preproc.specs.UnitText.{Header, Scope, joined, clashes, with_header}
-use Rattle.vf_preproc.specs.Joins.{IsEven, AreNamed, IsDefined, AreDefined, AreApart, IsJoined, Defines, no_more, one_more, Grows, serves, is_foreign}
+use Rattle.vf_preproc.specs.UnitText.{Header, Scope, is_among, names_of, with_file, joined, clashes, with_header}
+use Rattle.vf_preproc.specs.Joins.{IsEven, AreAmong, AreBelow, IsDefined, AreDefined, AreApart, IsJoined, Defines, no_more, one_more, Grows, serves, is_foreign, stands_in}
 
 -- a number is below another, or it is not
 pub order : (a b : ℕ) → (a < b) ⊎ (b ≤ a)
@@ -57,55 +58,67 @@ any_none : {A : Type 0} (p : A → Bool) (xs : List A) → ((k : ℕ) (x : A) �
 any_none p [] none = refl
 any_none p (y ∷ ys) none = rw (none 0 y refl) (any_none p ys (λ k x at. none (suc k) x at))
 
-foreign_parts : (header : Header) (name : List ℕ) → is_foreign header name ≡ true → (is_some (number_of header.names name) ≡ true) × (not (is_some (body_of header.macros name)) ≡ true)
-foreign_parts header name h = both (is_some (number_of header.names name)) (not (is_some (body_of header.macros name))) h
+found_later : {A : Type 0} (p : A → Bool) (y : A) (ys : List A) → ((k : ℕ) × (x : A) × (slice_get ys k ≡ Some x) × (p x ≡ true)) → (k : ℕ) × (x : A) × (slice_get (y ∷ ys) k ≡ Some x) × (p x ≡ true)
+found_later p y ys (k, x, at, passes) = (suc k, x, at, passes)
+
+found_first : {A : Type 0} (p : A → Bool) (y : A) (ys : List A) (b : Bool) → p y ≡ b → b || list_any p ys ≡ true → (list_any p ys ≡ true → (k : ℕ) × (x : A) × (slice_get ys k ≡ Some x) × (p x ≡ true)) → (k : ℕ) × (x : A) × (slice_get (y ∷ ys) k ≡ Some x) × (p x ≡ true)
+found_first p y ys true is h later = (0, y, refl, is)
+found_first p y ys false is h later = found_later p y ys (later h)
+
+-- a test that some item passes is passed by one
+any_found : {A : Type 0} (p : A → Bool) (xs : List A) → list_any p xs ≡ true → (k : ℕ) × (x : A) × (slice_get xs k ≡ Some x) × (p x ≡ true)
+any_found p [] h = absurd cc
+any_found p (x ∷ xs) h = found_first p x xs (p x) refl h (any_found p xs)
+
+both : (a b : Bool) → a && b ≡ true → (a ≡ true) × (b ≡ true)
+both true true h = (refl, refl)
+both true false h = absurd cc
+both false b h = absurd cc
+
+-- a macro that would clash with a header does
+pub found_clashes : (names : List (List (List ℕ))) (table : Table) (header : Header) (k : ℕ) (name : List ℕ) → slice_get table.names k ≡ Some name → is_foreign names header name ≡ true → clashes names table header ≡ true
+found_clashes names table header k name at foreign =
+    let parts = both (list_any (stands_in names name) header.files) (not (is_some (body_of header.macros name))) foreign in
+    let file = any_found (stands_in names name) header.files parts.0 in
+    let has = numbered (number_of (names_of names file.1) name) file.3 in
+    let one : is_some (body_of table name) && not (is_some (body_of header.macros name)) ≡ true = rw (defined_numbered table (number_of table.names name), among_names table.names k name at) parts.1 in
+    any_at (λ f. list_any (λ x. is_some (body_of table x) && not (is_some (body_of header.macros x))) (names_of names f)) header.files file.0 file.1 file.2
+    (any_at (λ x. is_some (body_of table x) && not (is_some (body_of header.macros x))) (names_of names file.1) has.0 name (name_there (names_of names file.1) name has.0 has.1) one)
+
+-- where no macro behind the first few would clash, none does
+pub none_clash : (known : ℕ) (names : List (List (List ℕ))) (table : Table) (header : Header) → AreApart known names table header → ((k : ℕ) (name : List ℕ) → known ≤ k → k < length table.names → slice_get table.names k ≡ Some name → is_foreign names header name ≡ false)
+    → clashes names table header ≡ false
+none_clash known names table header apart none = any_none (λ f. list_any (λ x. is_some (body_of table x) && not (is_some (body_of header.macros x))) (names_of names f)) header.files
+    (λ j f there. any_none (λ x. is_some (body_of table x) && not (is_some (body_of header.macros x))) (names_of names f) (each j f there))
   where
-    both : (a b : Bool) → a && b ≡ true → (a ≡ true) × (b ≡ true)
-    both true true h = (refl, refl)
-    both true false h = absurd cc
-    both false b h = absurd cc
-
--- a macro that is a name of a header and none of its macros is a clash
-pub found_clashes : (table : Table) (header : Header) (k : ℕ) (name : List ℕ) → slice_get table.names k ≡ Some name → is_foreign header name ≡ true → clashes table header ≡ true
-found_clashes table header k name at foreign =
-    let parts = foreign_parts header name foreign in
-    let has = numbered (number_of header.names name) parts.0 in
-    any_at (λ x. is_some (body_of table x) && not (is_some (body_of header.macros x))) header.names has.0 name (name_there header.names name has.0 has.1)
-    (rw (defined_numbered table (number_of table.names name), among_names table.names k name at) parts.1)
-
-apart_at : (known : ℕ) (table : Table) (header : Header) (xs : List (List ℕ)) → AreApart known table header xs → (k : ℕ) (x : List ℕ) → slice_get xs k ≡ Some x → (i : ℕ) → number_of table.names x ≡ Some i → i < known → is_some (body_of header.macros x) ≡ true
-apart_at known table header [] apart k x at i is below = absurd cc
-apart_at known table header (y ∷ ys) apart zero x at i is below = let same : y ≡ x = cc in subst (λ z. is_some (body_of header.macros z) ≡ true) same (apart.0 i (ap (λ z. number_of table.names z) same ∙ is) below)
-apart_at known table header (y ∷ ys) apart (suc k) x at i is below = apart_at known table header ys apart.1 k x at i is below
-
--- where no macro behind the first few is one, there is no clash
-pub none_clash : (known : ℕ) (table : Table) (header : Header) → AreApart known table header header.names → ((k : ℕ) (name : List ℕ) → known ≤ k → k < length table.names → slice_get table.names k ≡ Some name → is_foreign header name ≡ false)
-    → clashes table header ≡ false
-none_clash known table header apart none = any_none (λ x. is_some (body_of table x) && not (is_some (body_of header.macros x))) header.names each
-  where
-    own : (x : List ℕ) → is_some (body_of header.macros x) ≡ true → is_some (body_of table x) && not (is_some (body_of header.macros x)) ≡ false
-    own x is = rw is (never (is_some (body_of table x)))
-      where
-        never : (b : Bool) → b && false ≡ false
-        never true = refl
-        never false = refl
-
     late : (a b c : Bool) → a ≡ true → a && b ≡ false → c && b ≡ false
     late true true c is h = absurd cc
     late true false true is h = refl
     late true false false is h = refl
     late false b c is h = absurd cc
 
-    each : (k : ℕ) (x : List ℕ) → slice_get header.names k ≡ Some x → is_some (body_of table x) && not (is_some (body_of header.macros x)) ≡ false
-    each k x at = by_number (number_of table.names x) refl
+    each : (j f : ℕ) → slice_get header.files j ≡ Some f → (k : ℕ) (x : List ℕ) → slice_get (names_of names f) k ≡ Some x → is_some (body_of table x) && not (is_some (body_of header.macros x)) ≡ false
+    each j f there k x at = by_number (number_of table.names x) refl
       where
+        apart_at : (i : ℕ) → slice_get table.names i ≡ Some x → is_foreign names header x ≡ false
+        apart_at i is = ⊎_elim (λ early. apart i x early is) (λ behind. none i x behind (slice_get_within table.names i x is) is) (order i known)
+
         by_number : (o : Option ℕ) → number_of table.names x ≡ o → is_some (body_of table x) && not (is_some (body_of header.macros x)) ≡ false
         by_number None is = rw (defined_numbered table (number_of table.names x), is) refl
-        by_number (Some i) is = ⊎_elim
-            (λ early. own x (apart_at known table header header.names apart k x at i is early))
-            (λ behind. late (is_some (number_of header.names x)) (not (is_some (body_of header.macros x))) (is_some (body_of table x)) (among_names header.names k x at)
-            (none i x behind (slice_get_within table.names i x (name_there table.names x i is)) (name_there table.names x i is)))
-            (order i known)
+        by_number (Some i) is = late (list_any (stands_in names x) header.files) (not (is_some (body_of header.macros x))) (is_some (body_of table x))
+            (any_at (stands_in names x) header.files j f there (among_names (names_of names f) k x at))
+            (apart_at i (name_there table.names x i is))
+
+-- where nothing clashes, no macro would
+pub not_foreign : (names : List (List (List ℕ))) (table : Table) (header : Header) (x : List ℕ) → clashes names table header ≡ false → is_some (number_of table.names x) ≡ true → is_foreign names header x ≡ false
+not_foreign names table header x none there = by_test (is_foreign names header x) refl
+  where
+    by_test : (b : Bool) → is_foreign names header x ≡ b → is_foreign names header x ≡ false
+    by_test false is = is
+    by_test true is =
+        let n = numbered (number_of table.names x) there in
+        let found = found_clashes names table header n.0 x (name_there table.names x n.0 n.1) is in
+        absurd cc
 
 pub defines_then : (t u v : Table) → Defines t u → Defines u v → Defines t v
 defines_then t u v (no_more x) d = d
@@ -154,73 +167,73 @@ defines_defined t u (no_more x) even names bodies h = h
 defines_defined t u (one_more x y name tokens new more) even names bodies h =
     defines_defined (with_macro t name tokens) u more (even_more t name tokens even) names bodies (defined_more t name tokens even names bodies h)
 
--- a number among the first was there before one more came
-was_there : (names : List (List ℕ)) (name x : List ℕ) (i known : ℕ) → known ≤ length names → number_of (names ++ name ∷ []) x ≡ Some i → i < known → number_of names x ≡ Some i
-was_there names name x i known few is below = by_number (number_of names x) refl
-  where
-    by_test : (b : Bool) → cond b (Some (0 + length names)) None ≡ Some i → i ≡ length names
-    by_test true h = let e : 0 + length names ≡ i = cc in omega arith
-    by_test false h = absurd cc
-
-    by_number : (o : Option ℕ) → number_of names x ≡ o → number_of names x ≡ Some i
-    by_number (Some j) at = at ∙ sym (found-push (bytes_eq x) 0 names name j at) ∙ is
-    by_number None at =
-        let last = by_test (bytes_eq x name) (sym (missed-push (bytes_eq x) 0 names name at) ∙ is) in
-        absurd (omega arith)
-
-pub apart_more : (known : ℕ) (t : Table) (name : List ℕ) (tokens : List Token) (header : Header) → known ≤ length t.names → (xs : List (List ℕ)) → AreApart known t header xs → AreApart known (with_macro t name tokens) header xs
-apart_more known t name tokens header few [] h = tt
-apart_more known t name tokens header few (x ∷ xs) h = (
-  λ i is below. h.0 i (was_there t.names name x i known few is below) below,
-  apart_more known t name tokens header few xs h.1,
-)
-
-pub defines_apart : (known : ℕ) (t u : Table) (header : Header) → Defines t u → known ≤ length t.names → (xs : List (List ℕ)) → AreApart known t header xs → AreApart known u header xs
-defines_apart known t u header (no_more x) few xs h = h
-defines_apart known t u header (one_more x y name tokens new more) few xs h =
+-- a macro keeps its number
+defines_stay : (t u : Table) → Defines t u → (i : ℕ) → i < length t.names → slice_get u.names i ≡ slice_get t.names i
+defines_stay t u (no_more x) i within = refl
+defines_stay t u (one_more x y name tokens new more) i within =
     let size = length-append t.names (name ∷ []) in
-    defines_apart known (with_macro t name tokens) u header more (omega arith) xs (apart_more known t name tokens header few xs h)
+    defines_stay (with_macro t name tokens) u more i (omega arith) ∙ stays_at t.names name i within
 
--- names that are all there change nothing when they are put
-names_same : (names others : List (List ℕ)) → AreNamed names others → fold put names others ≡ names
-names_same names [] h = refl
-names_same names (x ∷ xs) h = ap (λ ns. fold put ns xs) (put_same (number_of names x) h.0) ∙ names_same names xs h.1
+pub defines_apart : (known : ℕ) (names : List (List (List ℕ))) (t u : Table) (header : Header) → Defines t u → known ≤ length t.names → AreApart known names t header → AreApart known names u header
+defines_apart known names t u header d few apart = λ i x below at. apart i x below (sym (defines_stay t u d i (omega arith)) ∙ at)
+
+-- where one more file is begun, the names of the others stay
+other_names : (names : List (List (List ℕ))) (own : List (List ℕ)) (x : List ℕ) (files : List ℕ) → AreBelow (length names) files → list_any (stands_in (names ++ own ∷ []) x) files ≡ list_any (stands_in names x) files
+other_names names own x [] below = refl
+other_names names own x (f ∷ fs) below =
+    rw (stays_at names own f below.0) (ap (λ b. stands_in names x f || b) (other_names names own x fs below.1))
+
+pub apart_begun : (known : ℕ) (names : List (List (List ℕ))) (own : List (List ℕ)) (table : Table) (header : Header) → AreBelow (length names) header.files → AreApart known names table header → AreApart known (names ++ own ∷ []) table header
+apart_begun known names own table header below apart = λ i x few at. ap (λ b. b && not (is_some (body_of header.macros x))) (other_names names own x header.files below) ∙ apart i x few at
+
+-- files that are all there change nothing when they come
+files_same : (files others : List ℕ) → AreAmong files others → fold with_file files others ≡ files
+files_same files [] h = refl
+files_same files (x ∷ xs) h = ap (λ fs. fold with_file fs xs) (cond-true (is_among files x) files (files ++ x ∷ []) h.0) ∙ files_same files xs h.1
+
+-- a file that is there stays there
+file_stays : (files : List ℕ) (x f : ℕ) → IsTrue (is_among files f) → IsTrue (is_among (with_file files x) f)
+file_stays files x f there = by_test (is_among files x)
   where
-    put_same : (o : Option ℕ) → IsTrue (is_some o) → put_found names x o ≡ names
-    put_same None there = absurd cc
-    put_same (Some n) there = refl
+    by_test : (b : Bool) → IsTrue (is_among (cond b files (files ++ x ∷ [])) f)
+    by_test true = there
+    by_test false = list_any-append (nat_eq f) files (x ∷ []) ∙ ap (λ b. b || is_among (x ∷ []) f) there
 
--- a name that is there stays there
-put_keeps : (names : List (List ℕ)) (name x : List ℕ) → IsTrue (is_some (number_of names x)) → IsTrue (is_some (number_of (put names name) x))
-put_keeps names name x there = by_found (number_of names name)
+files_stay : (files others : List ℕ) (f : ℕ) → IsTrue (is_among files f) → IsTrue (is_among (fold with_file files others) f)
+files_stay files [] f there = there
+files_stay files (x ∷ xs) f there = files_stay (with_file files x) xs f (file_stays files x f there)
+
+-- a file that came is there
+file_there : (files : List ℕ) (x : ℕ) → IsTrue (is_among (with_file files x) x)
+file_there files x = by_test (is_among files x) refl
   where
-    by_number : (o : Option ℕ) → number_of names x ≡ o → IsTrue (is_some o) → IsTrue (is_some (number_of (names ++ name ∷ []) x))
-    by_number None is h = absurd cc
-    by_number (Some n) is h = subst (λ o. IsTrue (is_some o)) (sym (found-push (bytes_eq x) 0 names name n is)) refl
+    or_true : (a : Bool) → a || (true || false) ≡ true
+    or_true true = refl
+    or_true false = refl
 
-    by_found : (o : Option ℕ) → IsTrue (is_some (number_of (put_found names name o) x))
-    by_found (Some n) = there
-    by_found None = by_number (number_of names x) refl there
+    by_test : (b : Bool) → is_among files x ≡ b → IsTrue (is_among (cond b files (files ++ x ∷ [])) x)
+    by_test true is = is
+    by_test false is = list_any-append (nat_eq x) files (x ∷ []) ∙ ap (λ b. is_among files x || (b || false)) (eq-eqb x x refl) ∙ or_true (is_among files x)
 
-puts_keep : (names others : List (List ℕ)) (x : List ℕ) → IsTrue (is_some (number_of names x)) → IsTrue (is_some (number_of (fold put names others) x))
-puts_keep names [] x there = there
-puts_keep names (y ∷ ys) x there = puts_keep (put names y) ys x (put_keeps names y x there)
+files_there : (files others : List ℕ) → AreAmong (fold with_file files others) others
+files_there files [] = tt
+files_there files (x ∷ xs) = (files_stay (with_file files x) xs x (file_there files x), files_there (with_file files x) xs)
 
--- a name that was put is there
-put_there : (names : List (List ℕ)) (x : List ℕ) → IsTrue (is_some (number_of (put names x) x))
-put_there names x = by_number (number_of names x) refl
+-- files that come are no others than theirs
+file_below : (n : ℕ) (files : List ℕ) (x : ℕ) → AreBelow n files → x < n → AreBelow n (with_file files x)
+file_below n files x below is = by_test (is_among files x)
   where
-    by_test : (b : Bool) → b ≡ true → IsTrue (is_some (cond b (Some (0 + length names)) None))
-    by_test true h = refl
-    by_test false h = absurd cc
+    more : (fs : List ℕ) → AreBelow n fs → AreBelow n (fs ++ x ∷ [])
+    more [] h = (is, tt)
+    more (f ∷ fs) h = (h.0, more fs h.1)
 
-    by_number : (o : Option ℕ) → number_of names x ≡ o → IsTrue (is_some (number_of (put_found names x o) x))
-    by_number (Some n) is = subst (λ o. IsTrue (is_some o)) (sym is) refl
-    by_number None is = subst (λ o. IsTrue (is_some o)) (sym (missed-push (bytes_eq x) 0 names x is)) (by_test (bytes_eq x x) ((bytes_decides x x).1 refl))
+    by_test : (b : Bool) → AreBelow n (cond b files (files ++ x ∷ []))
+    by_test true = below
+    by_test false = more files below
 
-puts_there : (names others : List (List ℕ)) → AreNamed (fold put names others) others
-puts_there names [] = tt
-puts_there names (x ∷ xs) = (puts_keep (put names x) xs x (put_there names x), puts_there (put names x) xs)
+files_below : (n : ℕ) (files others : List ℕ) → AreBelow n files → AreBelow n others → AreBelow n (fold with_file files others)
+files_below n files [] below h = below
+files_below n files (x ∷ xs) below h = files_below n (with_file files x) xs (file_below n files x below h.0) h.1
 
 -- macros that are all defined alike change nothing when they join
 joined_same : (hash : Place) (table : Table) (names : List (List ℕ)) (bodies : List (List Token)) → AreDefined table names bodies → joined hash table names bodies ≡ Ok table
@@ -229,35 +242,39 @@ joined_same hash table (x ∷ xs) [] h = refl
 joined_same hash table (x ∷ xs) (b ∷ bs) h = rw (h.0.has, h.0.alike) (joined_same hash table xs bs h.1)
 
 -- a further include of a header that has joined changes nothing, where nothing clashes
-pub again_same : (ghost : Bool) (hash : Place) (join : Join) (header : Header) (scope : Scope) → IsJoined join header scope → serves join ghost ≡ true → clashes scope.macros header ≡ false → with_header ghost hash header scope ≡ Ok scope
-again_same ghost hash join header scope j serves apart = rw apart (by_mark ghost serves)
+pub again_same : (ghost : Bool) (hash : Place) (join : Join) (names : List (List (List ℕ))) (header : Header) (scope : Scope) → IsJoined join names header scope → serves join ghost ≡ true → clashes names scope.macros header ≡ false → with_header ghost hash names header scope ≡ Ok scope
+again_same ghost hash join names header scope j serves apart = rw apart (by_mark ghost serves)
   where
     plain : (b : Bool) → false || not b ≡ true → b ≡ false
     plain true h = absurd cc
     plain false h = refl
 
-    by_mark : (g : Bool) → g || not join.is_ghost ≡ true → cond g (Ok (record scope { names = fold put scope.names header.names })) (joined hash scope.macros header.macros.names header.macros.bodies >>= λ table. Ok (record scope { macros = table; names = fold put scope.names header.names })) ≡ Ok scope
-    by_mark true h = ap (λ ns. Ok (record scope { names = ns })) (names_same scope.names header.names j.named)
-    by_mark false h = rw (joined_same hash scope.macros header.macros.names header.macros.bodies (j.defined (plain join.is_ghost h)), names_same scope.names header.names j.named) refl
+    by_mark : (g : Bool) → g || not join.is_ghost ≡ true → cond g (Ok (record scope { files = fold with_file scope.files header.files })) (joined hash scope.macros header.macros.names header.macros.bodies >>= λ table. Ok (record scope { macros = table; files = fold with_file scope.files header.files })) ≡ Ok scope
+    by_mark true h = ap (λ fs. Ok (record scope { files = fs })) (files_same scope.files header.files j.among)
+    by_mark false h = rw (joined_same hash scope.macros header.macros.names header.macros.bodies (j.defined (plain join.is_ghost h)), files_same scope.files header.files j.among) refl
 
 pub grows_then : (a b c : Scope) → Grows a b → Grows b c → Grows a c
-grows_then a b c g h = record { names = λ x there. h.names x (g.names x there); macros = defines_then a.macros b.macros c.macros g.macros h.macros }
+grows_then a b c g h = record { files = λ f there. h.files f (g.files f there); macros = defines_then a.macros b.macros c.macros g.macros h.macros }
 
 -- what stays as it was grew
 pub stays_grown : (s : Scope) → Grows s s
-stays_grown s = record { names = λ x there. there; macros = no_more s.macros }
+stays_grown s = record { files = λ f there. there; macros = no_more s.macros }
 
-named_more : (old new : Scope) → Grows old new → (others : List (List ℕ)) → AreNamed old.names others → AreNamed new.names others
-named_more old new g [] h = tt
-named_more old new g (x ∷ xs) h = (g.names x h.0, named_more old new g xs h.1)
+among_more : (old new : Scope) → Grows old new → (others : List ℕ) → AreAmong old.files others → AreAmong new.files others
+among_more old new g [] h = tt
+among_more old new g (x ∷ xs) h = (g.files x h.0, among_more old new g xs h.1)
 
 -- a header that has joined a file has joined it when more of the file was followed
-pub joined_grown : (join : Join) (header : Header) (old new : Scope) → Grows old new → IsEven old.macros → join.known ≤ length old.macros.names → IsJoined join header old → IsJoined join header new
-joined_grown join header old new g even few j = record {
-  named = named_more old new g header.names j.named;
+pub joined_grown : (join : Join) (names : List (List (List ℕ))) (header : Header) (old new : Scope) → Grows old new → IsEven old.macros → join.known ≤ length old.macros.names → IsJoined join names header old → IsJoined join names header new
+joined_grown join names header old new g even few j = record {
+  among = among_more old new g header.files j.among;
   defined = λ plain. defines_defined old.macros new.macros g.macros even header.macros.names header.macros.bodies (j.defined plain);
-  apart = defines_apart join.known old.macros new.macros header g.macros few header.names j.apart;
+  apart = defines_apart join.known names old.macros new.macros header g.macros few j.apart;
 }
+
+-- and when one more file was begun
+pub joined_begun : (join : Join) (names : List (List (List ℕ))) (own : List (List ℕ)) (header : Header) (scope : Scope) → AreBelow (length names) header.files → IsJoined join names header scope → IsJoined join (names ++ own ∷ []) header scope
+joined_begun join names own header scope below j = record { among = j.among; defined = j.defined; apart = apart_begun join.known names own scope.macros header below j.apart }
 
 -- going on with a value gave one
 bound : {A B : Type 0} (r : Result A Fault) (f : A → Result B Fault) (b : B) → r >>= f ≡ Ok b → (a : A) × (r ≡ Ok a) × (f a ≡ Ok b)
@@ -353,80 +370,70 @@ joined_from hash table new (y ∷ ys) (b ∷ bs) h x there =
     from_first t e came = from_defined t (number_of table.names y) e came
 
 -- what the include of a header makes of a file
-pub record Joins (ghost : Bool) (hash : Place) (header : Header) (scope new : Scope) : Type 0 where
-  pub apart : clashes scope.macros header ≡ false
-  pub names : new.names ≡ fold put scope.names header.names
+pub record Joins (ghost : Bool) (hash : Place) (names : List (List (List ℕ))) (header : Header) (scope new : Scope) : Type 0 where
+  pub apart : clashes names scope.macros header ≡ false
+  pub files : new.files ≡ fold with_file scope.files header.files
   pub groups : new.groups ≡ scope.groups
   pub macros : ((ghost ≡ true) × (new.macros ≡ scope.macros)) ⊎ ((ghost ≡ false) × (joined hash scope.macros header.macros.names header.macros.bodies ≡ Ok new.macros))
 
-pub with_header_joins : (ghost : Bool) (hash : Place) (header : Header) (scope new : Scope) → with_header ghost hash header scope ≡ Ok new → Joins ghost hash header scope new
-with_header_joins ghost hash header scope new h = by_clash (clashes scope.macros header) refl h
+pub with_header_joins : (ghost : Bool) (hash : Place) (names : List (List (List ℕ))) (header : Header) (scope new : Scope) → with_header ghost hash names header scope ≡ Ok new → Joins ghost hash names header scope new
+with_header_joins ghost hash names header scope new h = by_clash (clashes names scope.macros header) refl h
   where
     grown : Scope
-    grown = record scope { names = fold put scope.names header.names }
+    grown = record scope { files = fold with_file scope.files header.files }
 
-    by_mark : clashes scope.macros header ≡ false → (g : Bool) → cond g (Ok grown) (joined hash scope.macros header.macros.names header.macros.bodies >>= λ table. Ok (record grown { macros = table })) ≡ Ok new → Joins g hash header scope new
-    by_mark apart true e = let is : grown ≡ new = cc in subst (Joins true hash header scope) is (record { apart = apart; names = refl; groups = refl; macros = inl (refl, refl) })
+    by_mark : clashes names scope.macros header ≡ false → (g : Bool) → cond g (Ok grown) (joined hash scope.macros header.macros.names header.macros.bodies >>= λ table. Ok (record grown { macros = table })) ≡ Ok new → Joins g hash names header scope new
+    by_mark apart true e = let is : grown ≡ new = cc in subst (Joins true hash names header scope) is (record { apart = apart; files = refl; groups = refl; macros = inl (refl, refl) })
     by_mark apart false e =
         let b = bound (joined hash scope.macros header.macros.names header.macros.bodies) (λ table. Ok (record grown { macros = table })) new e in
         let is : record grown { macros = b.0 } ≡ new = cc in
-        subst (Joins false hash header scope) is (record { apart = apart; names = refl; groups = refl; macros = inr (refl, b.1) })
+        subst (Joins false hash names header scope) is (record { apart = apart; files = refl; groups = refl; macros = inr (refl, b.1) })
 
-    by_clash : (b : Bool) → clashes scope.macros header ≡ b → cond b (no_directive hash) (cond ghost (Ok grown) (joined hash scope.macros header.macros.names header.macros.bodies >>= λ table. Ok (record grown { macros = table }))) ≡ Ok new → Joins ghost hash header scope new
+    by_clash : (b : Bool) → clashes names scope.macros header ≡ b → cond b (no_directive hash) (cond ghost (Ok grown) (joined hash scope.macros header.macros.names header.macros.bodies >>= λ table. Ok (record grown { macros = table }))) ≡ Ok new → Joins ghost hash names header scope new
     by_clash true is e = absurd cc
     by_clash false is e = by_mark is ghost e
 
 -- a file only grows by the include of a header
-pub joins_grow : (ghost : Bool) (hash : Place) (header : Header) (scope new : Scope) → Joins ghost hash header scope new → Grows scope new
-joins_grow ghost hash header scope new j = record {
-  names = λ x there. subst (λ ns. IsTrue (is_some (number_of ns x))) (sym j.names) (puts_keep scope.names header.names x there);
+pub joins_grow : (ghost : Bool) (hash : Place) (names : List (List (List ℕ))) (header : Header) (scope new : Scope) → Joins ghost hash names header scope new → Grows scope new
+joins_grow ghost hash names header scope new j = record {
+  files = λ f there. subst (λ fs. IsTrue (is_among fs f)) (sym j.files) (files_stay scope.files header.files f there);
   macros = ⊎_elim (λ kept. subst (Defines scope.macros) (sym kept.1) (no_more scope.macros)) (λ came. joined_defines hash scope.macros new.macros header.macros.names header.macros.bodies came.1) j.macros;
 }
 
-all_false : {A : Type 0} (p : A → Bool) (xs : List A) → list_any p xs ≡ false → (k : ℕ) (x : A) → slice_get xs k ≡ Some x → p x ≡ false
-all_false p xs none k x at = by_test (p x) refl
-  where
-    by_test : (b : Bool) → p x ≡ b → p x ≡ false
-    by_test true is = let found = any_at p xs k x at is in absurd cc
-    by_test false is = is
-
-apart_all : (known : ℕ) (table : Table) (header : Header) (xs : List (List ℕ)) → ((k : ℕ) (x : List ℕ) → slice_get xs k ≡ Some x → (i : ℕ) → number_of table.names x ≡ Some i → is_some (body_of header.macros x) ≡ true) → AreApart known table header xs
-apart_all known table header [] each = tt
-apart_all known table header (x ∷ xs) each = (λ i is below. each 0 x refl i is, apart_all known table header xs (λ k y at. each (suc k) y at))
+-- and it consists of files that were begun, as the header does
+pub joins_below : (n : ℕ) (ghost : Bool) (hash : Place) (names : List (List (List ℕ))) (header : Header) (scope new : Scope) → Joins ghost hash names header scope new → AreBelow n scope.files → AreBelow n header.files → AreBelow n new.files
+joins_below n ghost hash names header scope new j below h = subst (AreBelow n) (sym j.files) (files_below n scope.files header.files below h)
 
 -- behind an include the header has joined
-pub joins_joined : (join : Join) (hash : Place) (header : Header) (scope new : Scope) → IsEven scope.macros → Joins join.is_ghost hash header scope new → IsJoined join header new
-joins_joined join hash header scope new even j = record {
-  named = subst (λ ns. AreNamed ns header.names) (sym j.names) (puts_there scope.names header.names);
+pub joins_joined : (join : Join) (hash : Place) (names : List (List (List ℕ))) (header : Header) (scope new : Scope) → IsEven scope.macros → Joins join.is_ghost hash names header scope new → IsJoined join names header new
+joins_joined join hash names header scope new even j = record {
+  among = subst (λ fs. AreAmong fs header.files) (sym j.files) (files_there scope.files header.files);
   defined = λ plain. ⊎_elim (λ kept. absurd (clash_marks kept.0 plain)) (λ came. joined_are hash scope.macros new.macros header.macros.names header.macros.bodies even came.1) j.macros;
-  apart = apart_all join.known new.macros header header.names one_apart;
+  apart = λ i x below at. one_apart i x at;
 }
   where
     clash_marks : {b : Bool} → b ≡ true → b ≡ false → ⊥
     clash_marks is isnt = absurd cc
 
-    own : (x : List ℕ) → is_some (body_of scope.macros x) && not (is_some (body_of header.macros x)) ≡ false → is_some (number_of scope.macros.names x) ≡ true → is_some (body_of header.macros x) ≡ true
-    own x none there = from (is_some (body_of scope.macros x)) (is_some (body_of header.macros x)) none (defined_numbered scope.macros (number_of scope.macros.names x) ∙ there)
-      where
-        from : (a b : Bool) → a && not b ≡ false → a ≡ true → b ≡ true
-        from true true h is = refl
-        from true false h is = absurd cc
-        from false b h is = absurd cc
+    own : (a b : Bool) → b ≡ true → a && not b ≡ false
+    own true true is = refl
+    own false true is = refl
+    own a false is = absurd cc
 
     came_from : (x : List ℕ) → is_some (number_of new.macros.names x) ≡ true → (is_some (number_of scope.macros.names x) ≡ true) ⊎ (is_some (number_of header.macros.names x) ≡ true)
     came_from x there = ⊎_elim (λ kept. inl (subst (λ (t : Table). is_some (number_of t.names x) ≡ true) kept.1 there)) (λ came. joined_from hash scope.macros new.macros header.macros.names header.macros.bodies came.1 x there) j.macros
 
-    one_apart : (k : ℕ) (x : List ℕ) → slice_get header.names k ≡ Some x → (i : ℕ) → number_of new.macros.names x ≡ Some i → is_some (body_of header.macros x) ≡ true
-    one_apart k x at i is = ⊎_elim
-        (λ before. own x (all_false (λ y. is_some (body_of scope.macros y) && not (is_some (body_of header.macros y))) header.names j.apart k x at) before)
-        (λ came. defined_numbered header.macros (number_of header.macros.names x) ∙ came)
-        (came_from x (rw is refl))
+    one_apart : (i : ℕ) (x : List ℕ) → slice_get new.macros.names i ≡ Some x → is_foreign names header x ≡ false
+    one_apart i x at = ⊎_elim
+        (λ before. not_foreign names scope.macros header x j.apart before)
+        (λ came. own (list_any (stands_in names x) header.files) (is_some (body_of header.macros x)) (defined_numbered header.macros (number_of header.macros.names x) ∙ came))
+        (came_from x (among_names new.macros.names i x at))
 
 -- what is to be remembered behind a further include
-pub again_joined : (ghost : Bool) (hash : Place) (join : Join) (header : Header) (scope : Scope) (size : ℕ) → IsEven scope.macros → IsJoined join header scope → with_header ghost hash header scope ≡ Ok scope → IsJoined (record { known = size; is_ghost = join.is_ghost }) header scope
-again_joined ghost hash join header scope size even j h =
-    let new = joins_joined (record { known = size; is_ghost = ghost }) hash header scope scope even (with_header_joins ghost hash header scope scope h) in
-    record { named = j.named; defined = j.defined; apart = new.apart }
+pub again_joined : (ghost : Bool) (hash : Place) (join : Join) (names : List (List (List ℕ))) (header : Header) (scope : Scope) (size : ℕ) → IsEven scope.macros → IsJoined join names header scope → with_header ghost hash names header scope ≡ Ok scope → IsJoined (record { known = size; is_ghost = join.is_ghost }) names header scope
+again_joined ghost hash join names header scope size even j h =
+    let new = joins_joined (record { known = size; is_ghost = ghost }) hash names header scope scope even (with_header_joins ghost hash names header scope scope h) in
+    record { among = j.among; defined = j.defined; apart = new.apart }
 
-pub with_joined : (ghost : Bool) (hash : Place) (header : Header) (scope new : Scope) (size : ℕ) → IsEven scope.macros → with_header ghost hash header scope ≡ Ok new → IsJoined (record { known = size; is_ghost = ghost }) header new
-with_joined ghost hash header scope new size even h = joins_joined (record { known = size; is_ghost = ghost }) hash header scope new even (with_header_joins ghost hash header scope new h)
+pub with_joined : (ghost : Bool) (hash : Place) (names : List (List (List ℕ))) (header : Header) (scope new : Scope) (size : ℕ) → IsEven scope.macros → with_header ghost hash names header scope ≡ Ok new → IsJoined (record { known = size; is_ghost = ghost }) names header new
+with_joined ghost hash names header scope new size even h = joins_joined (record { known = size; is_ghost = ghost }) hash names header scope new even (with_header_joins ghost hash names header scope new h)

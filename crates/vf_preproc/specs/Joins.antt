@@ -1,20 +1,34 @@
 -- Headers that a file has joined: what a further include of one need not do again.
-use Rattle.std.specs.Prelude.{◌≡◌, ℕ, ◌<◌, Bool, true, false, not, ◌&&◌, ◌||◌, List, [], ◌∷◌, length, Some, None, is_some, IsTrue}
+use Rattle.std.specs.Prelude.{◌≡◌, ℕ, ◌<◌, Bool, true, false, not, ◌&&◌, ◌||◌, List, [], ◌∷◌, length, slice_get, Some, None, is_some, IsTrue}
+use Rattle.std.specs.List.{list_any}
 use Rattle.vf_lexer.specs.declared.token.Token.{Token}
 use Rattle.vf_names.specs.Names.{number_of}
 use Rattle.vf_preproc.specs.declared.join.Join.{Join}
 use Rattle.vf_preproc.specs.Macros.{Table, body_of, with_macro}
 use Rattle.vf_preproc.specs.Directives.{is_alike}
-use Rattle.vf_preproc.specs.UnitText.{Header, Scope}
+use Rattle.vf_preproc.specs.UnitText.{Header, Scope, is_among, names_of}
 
 -- each macro of a table has its tokens
 abbrev pub IsEven : Table → Type 0
 IsEven table = length table.names ≡ length table.bodies
 
--- each of some names is among others
-abbrev pub AreNamed : List (List ℕ) → List (List ℕ) → Type 0
-AreNamed names [] = Unit {0}
-AreNamed names (x ∷ xs) = IsTrue (is_some (number_of names x)) × AreNamed names xs
+-- each of some files is among others
+abbrev pub AreAmong : List ℕ → List ℕ → Type 0
+AreAmong files [] = Unit {0}
+AreAmong files (x ∷ xs) = IsTrue (is_among files x) × AreAmong files xs
+
+-- each of some files is one of the first, so many of them
+abbrev pub AreBelow : ℕ → List ℕ → Type 0
+AreBelow n [] = Unit {0}
+AreBelow n (x ∷ xs) = (x < n) × AreBelow n xs
+
+-- a name stands in the file with a number
+abbrev pub stands_in : List (List (List ℕ)) → List ℕ → ℕ → Bool
+stands_in names name file = is_some (number_of (names_of names file) name)
+
+-- a name that would clash with a header as a macro of its includer: it stands in one of the header's files, and is none of its macros
+abbrev pub is_foreign : List (List (List ℕ)) → Header → List ℕ → Bool
+is_foreign names header name = list_any (stands_in names name) header.files && not (is_some (body_of header.macros name))
 
 -- a name is defined with tokens that look like these
 pub record IsDefined (table : Table) (name : List ℕ) (tokens : List Token) : Type 0 where
@@ -28,31 +42,26 @@ AreDefined table [] bodies = Unit {0}
 AreDefined table (x ∷ xs) [] = Unit {0}
 AreDefined table (x ∷ xs) (tokens ∷ bodies) = IsDefined table x tokens × AreDefined table xs bodies
 
--- none of some names is among the first macros of a table, so many of them, unless it is a macro of the header
-abbrev pub AreApart : ℕ → Table → Header → List (List ℕ) → Type 0
-AreApart known table header [] = Unit {0}
-AreApart known table header (x ∷ xs) = ((i : ℕ) → number_of table.names x ≡ Some i → i < known → IsTrue (is_some (body_of header.macros x))) × AreApart known table header xs
+-- none of the first macros of a table, so many of them, would clash with a header
+abbrev pub AreApart : ℕ → List (List (List ℕ)) → Table → Header → Type 0
+AreApart known names table header = (i : ℕ) (name : List ℕ) → i < known → slice_get table.names i ≡ Some name → is_foreign names header name ≡ false
 
--- a header has joined a file: its names are the file's, and so are its macros unless its include was ghost text, and none of its names was a macro of the file alone when the file had so many macros
-pub record IsJoined (join : Join) (header : Header) (scope : Scope) : Type 0 where
-  pub named : AreNamed scope.names header.names
+-- a header has joined a file: its files are the file's, and so are its macros unless its include was ghost text, and the macros that the file had then do not clash with it
+pub record IsJoined (join : Join) (names : List (List (List ℕ))) (header : Header) (scope : Scope) : Type 0 where
+  pub among : AreAmong scope.files header.files
   pub defined : join.is_ghost ≡ false → AreDefined scope.macros header.macros.names header.macros.bodies
-  pub apart : AreApart join.known scope.macros header header.names
+  pub apart : AreApart join.known names scope.macros header
 
 -- what is remembered serves for an include: all that this would do was done
 abbrev pub serves : Join → Bool → Bool
 serves join ghost = ghost || not join.is_ghost
-
--- a name of a header that would clash with a macro of its includer
-abbrev pub is_foreign : Header → List ℕ → Bool
-is_foreign header name = is_some (number_of header.names name) && not (is_some (body_of header.macros name))
 
 -- a table that grew by some macros, each with a new name
 pub data Defines : Table → Table → Type 0 where
   no_more : (t : Table) → Defines t t
   one_more : (t u : Table) (name : List ℕ) (tokens : List Token) → number_of t.names name ≡ None → Defines (with_macro t name tokens) u → Defines t u
 
--- a file of which a part was followed: its names are still its, and some macros came
+-- a file of which a part was followed: it consists of what it did, and some macros came
 pub record Grows (old new : Scope) : Type 0 where
-  pub names : (x : List ℕ) → IsTrue (is_some (number_of old.names x)) → IsTrue (is_some (number_of new.names x))
+  pub files : (f : ℕ) → IsTrue (is_among old.files f) → IsTrue (is_among new.files f)
   pub macros : Defines old.macros new.macros

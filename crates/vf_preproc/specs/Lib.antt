@@ -11,3 +11,5 @@ pub mod Scopes
 pub mod Units
 pub mod LineSteps
 pub mod Joins
+pub mod FileLists
+pub mod NameTables

@@ -7,8 +7,8 @@ use Rattle.vf_preproc.specs.Kept.{table_of}
 
 -- the header that is kept
 abbrev pub header_of : KeptHeader → Header
-header_of h = record { macros = table_of h.macros; names = h.names }
+header_of h = record { macros = table_of h.macros; files = h.files }
 
 -- what is kept of a file so far
 abbrev pub scope_of : KeptScope → Scope
-scope_of s = record { macros = table_of s.macros; groups = reverse s.groups.items; names = s.names }
+scope_of s = record { macros = table_of s.macros; groups = reverse s.groups.items; files = s.files }

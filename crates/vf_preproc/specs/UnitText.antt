@@ -1,5 +1,5 @@
 -- Unit text: the tokens of a file, with those of each header at its first include (C11 5.1.1.2, 6.10).
-use Rattle.std.specs.Prelude.{ℕ, zero, suc, Bool, true, false, not, ◌&&◌, ◌||◌, List, [], ◌∷◌, ◌++◌, length, map, filter, fold, slice_get, slice_set, Option, Some, None, is_some, Result, Ok, Err, if◌then◌else◌}
+use Rattle.std.specs.Prelude.{ℕ, zero, suc, Bool, true, false, not, ◌&&◌, ◌||◌, nat_eq, List, [], ◌∷◌, ◌++◌, length, map, filter, fold, slice_get, slice_set, Option, Some, None, is_some, unwrap_or, Result, Ok, Err, if◌then◌else◌}
 use Rattle.std.specs.List.{list_any}
 use Rattle.vf_base.specs.declared.place.Place.{Place}
 use Rattle.vf_base.specs.declared.rule.Rule.TheVariants as rules_of
@@ -27,23 +27,24 @@ pub data Source : Type 0 where
 abbrev pub Library : Type 0
 Library = List ℕ → Source
 
--- what a header leaves for those who include it: its macros, and the names that stand in it or in headers that it includes
+-- what a header leaves for those who include it: its macros, and the files of which it consists, by their numbers among those that were begun: itself, and those that it includes, directly or through others
 pub record Header : Type 0 where
   pub macros : Table
-  pub names : List (List ℕ)
+  pub files : List ℕ
 
--- what was made of a unit so far: its tokens, of which those behind the 200,001st do not matter; the files that were begun, first the one that it is of, each with its header once that is complete; and the numbers of the headers
+-- what was made of a unit so far: its tokens, of which those behind the 200,001st do not matter; the files that were begun, first the one that it is of, each with the names that stand in it and with its header once that is complete; and the numbers of the headers
 pub record Unit_so_far : Type 0 where
   pub tokens : List Token
   pub paths : List (List ℕ)
+  pub names : List (List (List ℕ))
   pub complete : List (Option Header)
   pub headers : List ℕ
 
--- what was made of a file so far: its macros, the groups that are open, innermost first, and the names that stand in it or in headers that it includes
+-- what was made of a file so far: its macros, the groups that are open, innermost first, and the files of which it consists
 pub record Scope : Type 0 where
   pub macros : Table
   pub groups : List Group
-  pub names : List (List ℕ)
+  pub files : List ℕ
 
 -- a file that is being expanded
 pub record File : Type 0 where
@@ -53,6 +54,18 @@ pub record File : Type 0 where
 -- the names that stand in a text, each once
 abbrev pub names_in : List Token → List (List ℕ)
 names_in tokens = fold put [] (map (λ (t : Token). t.text) (filter is_name tokens))
+
+-- the names that stand in the file with a number
+abbrev pub names_of : List (List (List ℕ)) → ℕ → List (List ℕ)
+names_of names file = unwrap_or (slice_get names file) []
+
+-- a file is one of some
+abbrev pub is_among : List ℕ → ℕ → Bool
+is_among files file = list_any (nat_eq file) files
+
+-- some files, and one more at their end unless it is one of them
+abbrev pub with_file : List ℕ → ℕ → List ℕ
+with_file files file = if is_among files file then files else files ++ file ∷ []
 
 -- a real directive must not have ghost text on its line
 abbrev pub is_mixed : File → List Token → Bool
@@ -71,15 +84,15 @@ joined hash table [] bodies = Ok table
 joined hash table (name ∷ names) [] = Ok table
 joined hash table (name ∷ names) (tokens ∷ bodies) = defined hash name tokens table (body_of table name) >>= λ t. joined hash t names bodies
 
--- a name of the header is a macro of the includer and none of the header
-abbrev pub clashes : Table → Header → Bool
-clashes table header = list_any (λ name. is_some (body_of table name) && not (is_some (body_of header.macros name))) header.names
+-- a name that stands in one of the header's files is a macro of the includer and none of the header
+abbrev pub clashes : List (List (List ℕ)) → Table → Header → Bool
+clashes names table header = list_any (λ file. list_any (λ name. is_some (body_of table name) && not (is_some (body_of header.macros name))) (names_of names file)) header.files
 
--- a file behind the include of a header: a C header's macros are the file's too
-abbrev pub with_header : Bool → Place → Header → Scope → Result Scope Fault
-with_header ghost hash header scope = if clashes scope.macros header then no_directive hash
-    else (if ghost then Ok (record scope { names = fold put scope.names header.names })
-    else (joined hash scope.macros header.macros.names header.macros.bodies >>= λ table. Ok (record scope { macros = table; names = fold put scope.names header.names })))
+-- a file behind the include of a header, by the names that stand in each file: it consists of the header's files too, and a C header's macros are the file's
+abbrev pub with_header : Bool → Place → List (List (List ℕ)) → Header → Scope → Result Scope Fault
+with_header ghost hash names header scope = if clashes names scope.macros header then no_directive hash
+    else (if ghost then Ok (record scope { files = fold with_file scope.files header.files })
+    else (joined hash scope.macros header.macros.names header.macros.bodies >>= λ table. Ok (record scope { macros = table; files = fold with_file scope.files header.files })))
 
 -- what an include makes of a unit: the header, or a fault
 abbrev pub Includer : Type 0
@@ -90,7 +103,7 @@ abbrev pub included : Includer → File → Place → Bool → List Token → Un
 included include file hash ghost words unit scope =
     target ghost file.path file.bytes hash words >>= λ path.
     include path hash unit >>= λ found.
-    with_header ghost hash found.1 scope >>= λ s. Ok (found.0, s)
+    with_header ghost hash found.0.names found.1 scope >>= λ s. Ok (found.0, s)
 
 -- a file with these groups
 abbrev pub in_groups : Scope → Result (List Group) Fault → Result Scope Fault
@@ -155,17 +168,20 @@ followed include file (l ∷ ls) unit scope = line include file l unit scope >>=
 
 -- a file at whose end no group is open
 abbrev pub closed : Unit_so_far → Scope → List Group → Result (Unit_so_far × Header) Fault
-closed unit scope [] = Ok (unit, record { macros = scope.macros; names = scope.names })
+closed unit scope [] = Ok (unit, record { macros = scope.macros; files = scope.files })
 closed unit scope (g ∷ gs) = no_directive (outermost g gs)
 
--- a whole file: its macros begin empty
-abbrev pub file_text : Includer → File → List Token → Unit_so_far → Result (Unit_so_far × Header) Fault
-file_text include file tokens unit =
-    followed include file (lines_of tokens) unit (record { macros = no_macros; groups = []; names = names_in tokens }) >>= λ s. closed s.0 s.1 s.1.groups
+-- a file with a number of which no line was followed yet: it has no macros
+abbrev pub unread : ℕ → Scope
+unread number = record { macros = no_macros; groups = []; files = number ∷ [] }
 
--- a unit that begins a file
-abbrev pub begun : Unit_so_far → List ℕ → Unit_so_far
-begun unit path = record unit { paths = unit.paths ++ path ∷ []; complete = unit.complete ++ None ∷ [] }
+-- a whole file, by its number among those that were begun
+abbrev pub file_text : Includer → File → ℕ → List Token → Unit_so_far → Result (Unit_so_far × Header) Fault
+file_text include file number tokens unit = followed include file (lines_of tokens) unit (unread number) >>= λ s. closed s.0 s.1 s.1.groups
+
+-- a unit that begins a file with some tokens
+abbrev pub begun : Unit_so_far → List ℕ → List Token → Unit_so_far
+begun unit path tokens = record unit { paths = unit.paths ++ path ∷ []; names = unit.names ++ names_in tokens ∷ []; complete = unit.complete ++ None ∷ [] }
 
 -- the beginning of a file
 abbrev pub beginning : ℕ → Place
@@ -186,7 +202,7 @@ completed number unit header = record unit { complete = slice_set unit.complete 
 -- a header that was not begun yet
 abbrev pub new_header : Includer → List ℕ → Unit_so_far → Loaded → Result (Unit_so_far × Header) Fault
 new_header include path unit file =
-    file_text include (record { path = path; bytes = file.bytes }) file.tokens (begun (record unit { headers = unit.headers ++ file.number ∷ [] }) path) >>= λ s. Ok (completed (length unit.paths) s.0 s.1, s.1)
+    file_text include (record { path = path; bytes = file.bytes }) (length unit.paths) file.tokens (begun (record unit { headers = unit.headers ++ file.number ∷ [] }) path file.tokens) >>= λ s. Ok (completed (length unit.paths) s.0 s.1, s.1)
 
 -- a header that was begun before: it is complete, or it includes itself
 abbrev pub old_header : Place → Unit_so_far → Option (Option Header) → Result (Unit_so_far × Header) Fault
@@ -203,8 +219,9 @@ abbrev pub header_at : ℕ → Library → Includer
 header_at zero library path hash unit = no_include hash
 header_at (suc depth) library path hash unit = any_header (header_at depth library) library path hash unit (number_of unit.paths path)
 
--- a unit's tokens, its headers in the order of their first includes, and the end of its file
+-- a unit's tokens, its headers in the order of their first includes, the numbers of the files of which each file consists, first for the unit's own file and then for each header, and the end of its file
 pub record Text_of_unit : Type 0 where
   pub tokens : List Token
   pub headers : List ℕ
+  pub includes : List (List ℕ)
   pub end_of_file : Place

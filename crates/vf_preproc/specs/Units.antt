@@ -13,7 +13,7 @@ use Rattle.vf_preproc.specs.Scopes.{header_of}
 
 -- what is kept of a unit so far
 abbrev pub unit_of : KeptUnit → Unit_so_far
-unit_of u = record { tokens = u.tokens; paths = u.paths; complete = map (option_map header_of) u.complete.items; headers = u.headers }
+unit_of u = record { tokens = u.tokens; paths = u.paths; names = u.names; complete = map (option_map header_of) u.complete.items; headers = u.headers }
 
 -- these are the tokens of the bytes of a file with a number, all of them ghost in a ghost header
 abbrev pub Lexes : Bool → ℕ → List ℕ → List Token → Type 0

@@ -1,26 +1,25 @@
 //! Files, and the headers that they include.
 
-ghost use Rattle.std.specs.Prelude.{◌≡◌, [], IfOk};
+ghost use Rattle.std.specs.Prelude.{◌≡◌, IfOk};
 ghost use Rattle.vf_preproc.specs.Answers.{Gives};
 ghost use Rattle.vf_preproc.specs.Scopes.{header_of, scope_of};
-ghost use Rattle.vf_preproc.specs.UnitText.{Unit_so_far, closed, names_in};
-ghost use Rattle.vf_preproc.specs.Macros.{no_macros};
+ghost use Rattle.vf_preproc.specs.UnitText.{Unit_so_far, closed, unread};
 
 use crate::fault::ExpandFault;
+use crate::files::FileList;
 use crate::macros::Macros;
-use crate::scope::{Header, Scope, names_in};
+use crate::scope::{Header, Scope};
 use std::alloc::Global;
 use vf_base::Memory;
-use vf_lexer::Token;
 
-/// The beginning of a file.
-pub fn opened(alloc: Global, tokens: &[Token]) -> Result<Scope, Memory>
-    ensures { IfOk result (λ scope. scope_of scope ≡ record { macros = no_macros; groups = []; names = names_in tokens.now }) }
+/// The beginning of the file with a number among those that were begun.
+pub fn opened(alloc: Global, number: usize) -> Result<Scope, Memory>
+    ensures { IfOk result (λ scope. scope_of scope ≡ unread number) }
 {
     Ok(Scope {
         macros: Macros::new(alloc),
         groups: Vec::new(alloc),
-        names: names_in(alloc, tokens)?,
+        files: FileList::of(alloc, number)?,
     })
 }
 
@@ -34,6 +33,6 @@ pub fn closed(scope: Scope) -> Result<Header, ExpandFault>
     }
     Ok(Header {
         macros: scope.macros,
-        names: scope.names,
+        files: scope.files,
     })
 }

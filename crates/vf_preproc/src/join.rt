@@ -12,38 +12,32 @@ ghost use Rattle.vf_preproc.specs.Joins.{AreApart, IsEven, IsJoined, is_foreign,
 
 use crate::fault::ExpandFault;
 use crate::macros::Macros;
+use crate::name_table::NameTable;
 use crate::scope::{Header, Scope, define_as};
 use std::rc::Rc;
-use vf_base::{Memory, Place};
-use vf_names::Names;
+use vf_base::Place;
 
 /// Whether a name of a header is a macro of its includer and none of its own.
-fn clashes(macros: &Macros, header: &Header) -> bool
-    ensures { result ≡ clashes (table_of macros.now) (header_of header.now) }
+///
+/// Of the includer's macros the first ones, so many of them, are known to be none.
+fn clashes(known: usize, names: &NameTable, macros: &Macros, header: &Header) -> bool
+    requires { AreApart known names.now (table_of macros.now) (header_of header.now) }
+    ensures { result ≡ clashes names.now (table_of macros.now) (header_of header.now) }
 {
-    for name in header.names.as_slice() {
-        if is_clash(macros, header, name.as_bytes()) {
+    let defined = macros.names.as_slice();
+    for at in known..defined.len() {
+        if is_foreign(names, header, defined[at].as_bytes()) {
             return true;
         }
     }
     false
 }
 
-/// Whether a name is a macro of an includer and none of the header.
-fn is_clash(macros: &Macros, header: &Header, name: &[u8]) -> bool
-    ensures { result ≡ (is_some (body_of (table_of macros.now) name.now) && not (is_some (body_of (header_of header.now).macros name.now))) }
+/// Whether a name would clash with a header as a macro of its includer.
+fn is_foreign(names: &NameTable, header: &Header, name: &[u8]) -> bool
+    ensures { result ≡ is_foreign names.now (header_of header.now) name.now }
 {
-    macros.has(name) && !header.macros.has(name)
-}
-
-/// Puts the names of a header to those of its includer.
-fn join_names(names: &mut Names, others: &Names) -> Result<(), Memory>
-    ensures { OnOk result (names.new ≡ fold put names.old others.now) }
-{
-    for name in others.as_slice() {
-        names.put(name.as_bytes())?;
-    }
-    Ok(())
+    names.stands(name, &header.files) && !header.macros.has(name)
 }
 
 /// Puts the macros of a header to those of its includer.
@@ -68,30 +62,6 @@ pub struct Join {
     pub is_ghost: bool,
 }
 
-/// Whether one of the macros behind the first few is a name of a header and none of its macros.
-fn clashes_behind(known: usize, macros: &Macros, header: &Header) -> bool
-    requires { AreApart known (table_of macros.now) (header_of header.now) header.now.names }
-    ensures { result ≡ clashes (table_of macros.now) (header_of header.now) }
-{
-    let names = macros.names.as_slice();
-    if known > names.len() || names.len() - known > header.names.len() {
-        return clashes(macros, header);
-    }
-    for at in known..names.len() {
-        if is_foreign(header, names[at].as_bytes()) {
-            return true;
-        }
-    }
-    false
-}
-
-/// Whether a name of a header would clash with a macro.
-fn is_foreign(header: &Header, name: &[u8]) -> bool
-    ensures { result ≡ is_foreign (header_of header.now) name.now }
-{
-    header.names.number(name).is_some() && !header.macros.has(name)
-}
-
 /// Whether what is remembered of a header's include serves for a further one.
 fn serves(join: Join, is_ghost: bool) -> bool
     ensures { result ≡ serves join is_ghost }
@@ -106,40 +76,42 @@ fn join_again(
     is_ghost: bool,
     hash: Place,
     join: Join,
+    names: &NameTable,
     header: &Header,
     scope: &Scope,
 ) -> Result<(), ExpandFault>
-    requires joined { IsJoined join (header_of header.now) (scope_of scope.now) }
+    requires joined { IsJoined join names.now (header_of header.now) (scope_of scope.now) }
     requires serves { IsTrue (serves join is_ghost) }
-    ensures { Gives (λ _. scope_of scope.now) result (with_header is_ghost hash (header_of header.now) (scope_of scope.now)) }
+    ensures { Gives (λ _. scope_of scope.now) result (with_header is_ghost hash names.now (header_of header.now) (scope_of scope.now)) }
 {
-    if clashes_behind(join.known, &scope.macros, header) {
+    if clashes(join.known, names, &scope.macros, header) {
         return Err(ExpandFault::directive(hash));
     }
     Ok(())
 }
 
-/// Goes on behind the include of a header.
+/// Goes on behind the include of a header, by the names that stand in each file.
 pub fn with_header(
     is_ghost: bool,
     hash: Place,
+    names: &NameTable,
     header: &Header,
     scope: &mut Scope,
 ) -> Result<(), ExpandFault>
-    ensures { Gives (λ _. scope_of scope.new) result (with_header is_ghost hash (header_of header.now) (scope_of scope.old)) }
+    ensures { Gives (λ _. scope_of scope.new) result (with_header is_ghost hash names.now (header_of header.now) (scope_of scope.old)) }
 {
-    if clashes(&scope.macros, header) {
+    if clashes(0, names, &scope.macros, header) {
         return Err(ExpandFault::directive(hash));
     }
     if !is_ghost {
         join_macros(hash, &mut scope.macros, &header.macros)?;
     }
-    join_names(&mut scope.names, &header.names)?;
+    scope.files.join(&header.files)?;
     Ok(())
 }
 
-/// Goes on behind the include of a header, of which it may be known how it has joined the file before;
-/// then only the macros that were defined since are looked at. Gives what is to be remembered of it.
+/// Goes on behind the include of a header, by the names that stand in each file. It may be known how the header
+/// has joined the file before; then only the macros that were defined since are looked at. Gives what is to be remembered of it.
 ///
 /// # Errors
 ///
@@ -148,26 +120,27 @@ pub fn with_header(
 pub fn join_header(
     is_ghost: bool,
     hash: Place,
+    names: &NameTable,
     header: &Header,
     scope: &mut Scope,
     known: Option<Join>,
 ) -> Result<Join, ExpandFault>
     requires even { IsEven (table_of scope.old.macros) }
-    requires joined { IfSome known (λ join. IsJoined join (header_of header.now) (scope_of scope.old)) }
-    ensures exact { Gives (λ _. scope_of scope.new) result (with_header is_ghost hash (header_of header.now) (scope_of scope.old)) }
-    ensures joined { IfOk result (λ join. IsJoined join (header_of header.now) (scope_of scope.new)) }
+    requires joined { IfSome known (λ join. IsJoined join names.now (header_of header.now) (scope_of scope.old)) }
+    ensures exact { Gives (λ _. scope_of scope.new) result (with_header is_ghost hash names.now (header_of header.now) (scope_of scope.old)) }
+    ensures joined { IfOk result (λ join. IsJoined join names.now (header_of header.now) (scope_of scope.new)) }
     ensures all { IfOk result (λ join. join.known ≡ length scope.new.macros.names) }
 {
     if let Some(join) = known {
         if serves(join, is_ghost) {
-            join_again(is_ghost, hash, join, header, scope)?;
+            join_again(is_ghost, hash, join, names, header, scope)?;
             return Ok(Join {
                 known: scope.macros.names.len(),
                 is_ghost: join.is_ghost,
             });
         }
     }
-    with_header(is_ghost, hash, header, scope)?;
+    with_header(is_ghost, hash, names, header, scope)?;
     Ok(Join {
         known: scope.macros.names.len(),
         is_ghost,

@@ -8,12 +8,14 @@
 #![tactic(auto)]
 
 mod fault;
+mod files;
 mod groups;
 mod include;
 mod include_target;
 mod join;
 mod laws;
 mod macros;
+mod name_table;
 mod replace;
 mod scope;
 mod sources;
@@ -23,12 +25,14 @@ mod unit;
 mod words;
 
 pub use fault::ExpandFault;
+pub use files::FileList;
 pub use groups::{Group, begin, end, is_taken, skip, turn};
 pub use include::{closed, opened};
 pub use include_target::{is_ghost_path, path_text, target};
 pub use join::{Join, join_header, with_header};
 pub use laws::replacements_are_whole;
 pub use macros::Macros;
+pub use name_table::NameTable;
 pub use replace::{MOST_TOKENS, put_expanded};
 pub use scope::{Header, Scope, define, names_in};
 pub use sources::Loaded;

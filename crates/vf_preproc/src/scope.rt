@@ -13,6 +13,7 @@ ghost use Rattle.vf_preproc.specs.Kept.{table_of};
 ghost use Rattle.vf_preproc.specs.Answers.{Gives};
 
 use crate::fault::ExpandFault;
+use crate::files::FileList;
 use crate::groups::Group;
 use crate::macros::Macros;
 use crate::replace::is_name;
@@ -27,8 +28,8 @@ use vf_names::Names;
 #[derive(Drop)]
 pub struct Header {
     pub macros: Macros,
-    /// The names that stand in it or in headers that it includes.
-    pub names: Names,
+    /// The files of which it consists: itself, and those that it includes, directly or through others.
+    pub files: FileList,
 }
 
 /// What was made of a file so far.
@@ -37,8 +38,8 @@ pub struct Scope {
     pub macros: Macros,
     /// The groups that are open, the innermost at the end.
     pub groups: Vec<Group>,
-    /// The names that stand in it or in headers that it includes.
-    pub names: Names,
+    /// The files of which it consists: itself, and those that it includes, directly or through others.
+    pub files: FileList,
 }
 
 /// The words that are no names.

@@ -24,11 +24,12 @@ fn check_text(rt: &impl Abort, alloc: Global, text: &str, spelled: &str) -> Resu
         alloc,
         tokens: Sequence::new(alloc),
         paths: Names::new(alloc),
+        names: NameTable::new(alloc),
         complete: Vec::new(alloc),
         headers: NumberList::new(alloc),
         budget: 1000,
     };
-    let mut scope = opened(alloc, tokens.as_slice())?;
+    let mut scope = opened(alloc, 0)?;
     let file = File {
         path: b"a.c",
         bytes: text.as_bytes(),
@@ -90,11 +91,12 @@ fn check_refused(rt: &impl Abort, alloc: Global, text: &str, column: u32) -> Res
         alloc,
         tokens: Sequence::new(alloc),
         paths: Names::new(alloc),
+        names: NameTable::new(alloc),
         complete: Vec::new(alloc),
         headers: NumberList::new(alloc),
         budget: 1000,
     };
-    let mut scope = opened(alloc, tokens.as_slice())?;
+    let mut scope = opened(alloc, 0)?;
     let file = File {
         path: b"a.c",
         bytes: text.as_bytes(),

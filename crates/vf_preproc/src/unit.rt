@@ -6,10 +6,11 @@ ghost use Rattle.vf_preproc.specs.Units.{unit_of};
 ghost use Rattle.vf_preproc.specs.Scopes.{header_of};
 ghost use Rattle.vf_preproc.specs.UnitText.{begun, completed};
 
-use crate::scope::Header;
+use crate::name_table::NameTable;
+use crate::scope::{Header, names_in};
 use std::alloc::Global;
 use vf_base::{Memory, NumberList};
-use vf_lexer::TokenList;
+use vf_lexer::{Token, TokenList};
 use vf_names::Names;
 
 /// What was made of a unit so far.
@@ -20,6 +21,8 @@ pub struct Unit {
     pub tokens: TokenList,
     /// The files that were begun, the first of which is the one that the unit is of.
     pub paths: Names,
+    /// The names that stand in each of them.
+    pub names: NameTable,
     /// The header that each of these files is, once it is complete.
     pub complete: Vec<Option<Header>>,
     /// The numbers of the headers in the order of their first includes.
@@ -29,15 +32,16 @@ pub struct Unit {
 }
 
 impl Unit {
-    /// Begins a header, and gives its number among the files.
-    pub fn begin(&mut self, path: &[u8], number: u32) -> Result<usize, Memory>
+    /// Begins a header with some tokens, and gives its number among the files.
+    pub fn begin(&mut self, path: &[u8], number: u32, tokens: &[Token]) -> Result<usize, Memory>
         requires { number_of self.old.paths path.now ≡ None }
-        ensures begun { OnOk result (unit_of self.new ≡ begun (record (unit_of self.old) { headers = self.old.headers ++ number ∷ [] }) path.now) }
+        ensures begun { OnOk result (unit_of self.new ≡ begun (record (unit_of self.old) { headers = self.old.headers ++ number ∷ [] }) path.now tokens.now) }
         ensures number { IfOk result (λ n. n ≡ length self.old.paths) }
         ensures tokens { self.new.tokens ≡ self.old.tokens }
     {
         let index = self.paths.len();
         self.paths.put(path)?;
+        self.names.push(names_in(self.alloc, tokens)?)?;
         self.complete.push(None)?;
         self.headers.push(u64::from(number))?;
         Ok(index)

@@ -1,13 +1,13 @@
 //! The exchange of equalities and bounds, with the steps that derive them.
 
-ghost use Rattle.std.specs.Prelude.{◌≡◌, ◌<◌, ◌+◌, ℤ, neg_ℤ, pos, length, IfOk};
+ghost use Rattle.std.specs.Prelude.{◌≡◌, ◌<◌, ◌+◌, ℕ, ℤ, neg_ℤ, pos, length, IsTrue, IsFalse, IfOk};
 ghost use Rattle.vf_table.specs.Tables.{IsInteger};
 ghost use Rattle.vf_congruence.specs.Congruence.{Congruent, WereMerged};
 ghost use Rattle.vf_arith.specs.Paths.{Path, HasNegativeCycle};
 ghost use Rattle.vf_refute.specs.Refutations.{HasDerived};
 ghost use Rattle.vf_log.specs.Derivations.{IsContinued};
 ghost use Rattle.vf_explain.specs.Reached.{AreReasons, IsBoundBy};
-ghost use Rattle.vf_ground.specs.Held.{IsNear, AllAgree, IsLacking, Lacks};
+ghost use Rattle.vf_ground.specs.Held.{IsNear, Agree, AllAgree, Lacks};
 ghost use Rattle.vf_refuting.specs.Runs.{IsRun, GoesOn, HaveDerivedBoth};
 
 use crate::run::{Both, Run, add, merge};
@@ -15,7 +15,7 @@ use std::alloc::Global;
 use vf_arith::{Bounds, Edge};
 use vf_base::Memory;
 use vf_explain::why_bound;
-use vf_ground::{Lack, Task, find};
+use vf_ground::{Lack, lack_at};
 use vf_log::Log;
 use vf_refute::Derived;
 
@@ -122,25 +122,73 @@ fn supply_equality(alloc: Global, run: &mut Run, x: u32, y: u32) -> Result<(), M
     Ok(())
 }
 
-/// Gives classes and bounds what they lack at two terms.
-fn supply(alloc: Global, run: &mut Run, task: Task) -> Result<(), Memory>
+/// Gives classes and bounds what they lack at two terms, and tells whether they lacked anything.
+fn exchange_at(alloc: Global, run: &mut Run, x: u32, y: u32) -> Result<bool, Memory>
     requires run { IsRun run.old }
     requires fine { HasNegativeCycle run.old.bounds.edges → ⊥ }
-    requires task { IsLacking run.old.classes.nodes run.old.classes.merged run.old.bounds.edges task.left task.right task.lack }
+    requires left { x < length run.old.classes.nodes }
+    requires right { y < length run.old.classes.nodes }
     ensures goes { IfOk result (λ _. GoesOn run.old run.new) }
-    ensures falls { IfOk result (λ _. (HasNegativeCycle run.new.bounds.edges → ⊥) → run.new.classes.weight + run.new.bounds.weight < run.old.classes.weight + run.old.bounds.weight) }
+    ensures agree { IfOk result (λ given. IsFalse given → Agree run.old.classes.nodes run.old.classes.merged run.old.bounds.edges x y) }
+    ensures same { IfOk result (λ given. IsFalse given → run.new ≡ run.old) }
+    ensures falls { IfOk result (λ given. IsTrue given → (HasNegativeCycle run.new.bounds.edges → ⊥) → run.new.classes.weight + run.new.bounds.weight < run.old.classes.weight + run.old.bounds.weight) }
 {
-    match task.lack {
-        Lack::Nothing => Ok(()),
+    match lack_at(&run.classes, &run.bounds, x, y) {
+        Lack::Nothing => Ok(false),
         Lack::OfBound => {
-            supply_bound(alloc, run, task.left, task.right)?;
-            Ok(())
+            supply_bound(alloc, run, x, y)?;
+            Ok(true)
         }
         Lack::OfEquality => {
-            supply_equality(alloc, run, task.left, task.right)?;
-            Ok(())
+            supply_equality(alloc, run, x, y)?;
+            Ok(true)
         }
     }
+}
+
+/// Gives classes and bounds what they lack at a term and each other one, up to a cycle below 0, and
+/// tells whether they lacked anything.
+fn exchange_beside(alloc: Global, run: &mut Run, x: u32) -> Result<bool, Memory>
+    requires run { IsRun run.old }
+    requires fine { HasNegativeCycle run.old.bounds.edges → ⊥ }
+    requires left { x < length run.old.classes.nodes }
+    ensures goes { IfOk result (λ _. GoesOn run.old run.new) }
+    ensures agree { IfOk result (λ given. IsFalse given → (y : ℕ) → y < length run.old.classes.nodes → Agree run.old.classes.nodes run.old.classes.merged run.old.bounds.edges x y) }
+    ensures same { IfOk result (λ given. IsFalse given → run.new ≡ run.old) }
+    ensures falls { IfOk result (λ given. IsTrue given → (HasNegativeCycle run.new.bounds.edges → ⊥) → run.new.classes.weight + run.new.bounds.weight < run.old.classes.weight + run.old.bounds.weight) }
+{
+    let mut given = false;
+    for y in 0..run.classes.size() {
+        if exchange_at(alloc, run, x, y)? {
+            given = true;
+            if run.bounds.conflict() {
+                return Ok(true);
+            }
+        }
+    }
+    Ok(given)
+}
+
+/// Goes once over each two terms and gives classes and bounds what they lack there, up to a cycle
+/// below 0, and tells whether they lacked anything.
+fn exchange_once(alloc: Global, run: &mut Run) -> Result<bool, Memory>
+    requires run { IsRun run.old }
+    requires fine { HasNegativeCycle run.old.bounds.edges → ⊥ }
+    ensures goes { IfOk result (λ _. GoesOn run.old run.new) }
+    ensures agree { IfOk result (λ given. IsFalse given → AllAgree run.old.classes.nodes run.old.classes.merged run.old.bounds.edges) }
+    ensures same { IfOk result (λ given. IsFalse given → run.new ≡ run.old) }
+    ensures falls { IfOk result (λ given. IsTrue given → (HasNegativeCycle run.new.bounds.edges → ⊥) → run.new.classes.weight + run.new.bounds.weight < run.old.classes.weight + run.old.bounds.weight) }
+{
+    let mut given = false;
+    for x in 0..run.classes.size() {
+        if exchange_beside(alloc, run, x)? {
+            given = true;
+            if run.bounds.conflict() {
+                return Ok(true);
+            }
+        }
+    }
+    Ok(given)
 }
 
 /// Brings classes and bounds to agree, or to a cycle below 0.
@@ -152,8 +200,7 @@ pub(crate) fn exchange(alloc: Global, run: &mut Run) -> Result<(), Memory>
     if run.bounds.conflict() {
         return Ok(());
     }
-    while let Some(task) = find(&run.classes, &run.bounds) {
-        supply(alloc, run, task)?;
+    while exchange_once(alloc, run)? {
         if run.bounds.conflict() {
             return Ok(());
         }

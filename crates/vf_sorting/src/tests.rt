@@ -3,22 +3,15 @@
 use super::*;
 use std::alloc::Global;
 use std::test::Fail;
-use vf_base::{IntType, NumberList, Rule, RuleFault, Sequence};
+use vf_base::{Rule, RuleFault};
 use vf_cursor::cursor::Cursor;
 use vf_cursor::fault::Stop;
-use vf_declared::ctype::CType;
-use vf_declared::declaration::{
-    Constructor, Datatype, Declaration, Family, Fixpoint, GhostDeclaration, Lemma, Meaning,
-    PredicateConstructor, Signature,
-};
-use vf_declared::locals::{GhostLocal, Local, Locals};
-use vf_declared::scope::Scope;
-use vf_declared::stack::Stack;
 use vf_lexer::lex;
 use vf_names::Names;
 use vf_parse_term::sorts::sort;
 use vf_parse_term::terms::term;
-use vf_sorts::{Head, Sort, SortList, Unknowns};
+use vf_sample::sample;
+use vf_sorts::{Head, Sort, Unknowns};
 
 /// The datatypes of the unit here.
 const LIST: Head = Head::Datatype(0);
@@ -35,223 +28,11 @@ enum Answer {
     Refused(Rule, u32),
 }
 
-/// The unit's own file.
-fn own_file(alloc: Global) -> Result<NumberList, Stop> {
-    let mut files = NumberList::new(alloc);
-    files.push(0)?;
-    Ok(files)
-}
-
-/// One sort.
-fn one(alloc: Global, sort: Sort) -> Result<SortList, Stop> {
-    let mut sorts = SortList::new(alloc);
-    sorts.push(sort)?;
-    Ok(sorts)
-}
-
-/// A sort without parts.
-fn leaf(alloc: Global, head: Head) -> Sort {
-    Sort::leaf(alloc, head)
-}
-
-/// Lists of a sort.
-fn list_of(alloc: Global, head: Head) -> Result<Sort, Stop> {
-    Ok(Sort::new(LIST, one(alloc, leaf(alloc, head))?))
-}
-
-/// A name that annotations bind.
-fn bound(sort: Sort) -> Local {
-    Local::Ghost(GhostLocal {
-        is_variable: false,
-        sort,
-    })
-}
-
-/// `int i, bool b, struct s *p, int *q` and the ghost names `any w`, `list<int> xs` and `predicate(int) r`.
-fn locals(alloc: Global) -> Result<Locals, Stop> {
-    let mut names = Names::new(alloc);
-    let mut meanings = Stack::new(alloc);
-    for (name, local) in [
-        ("i", Local::Real(CType::Integer(IntType::Int))),
-        ("b", Local::Real(CType::Integer(IntType::Bool))),
-        ("p", Local::Real(CType::StructPointer(4))),
-        ("q", Local::Real(CType::IntPointer)),
-        ("w", bound(leaf(alloc, Head::Any))),
-        ("xs", bound(list_of(alloc, Head::Int)?)),
-        (
-            "r",
-            bound(Sort::new(Head::Predicate, one(alloc, leaf(alloc, Head::Int))?)),
-        ),
-    ] {
-        names.put(name.as_bytes())?;
-        meanings.push(local)?;
-    }
-    Ok(Locals { names, meanings })
-}
-
-/// The arguments of `cons`: one of the elements' sort, and a list.
-fn cons_arguments(alloc: Global) -> Result<SortList, Stop> {
-    let mut arguments = one(alloc, leaf(alloc, Head::Parameter(0)))?;
-    arguments.push(list_of(alloc, Head::Parameter(0))?)?;
-    Ok(arguments)
-}
-
-/// The arguments of `first`: a list, and what is given where it is empty.
-fn first_arguments(alloc: Global) -> Result<SortList, Stop> {
-    let mut arguments = one(alloc, list_of(alloc, Head::Parameter(0))?)?;
-    arguments.push(leaf(alloc, Head::Parameter(0)))?;
-    Ok(arguments)
-}
-
-/// A constructor of a datatype.
-fn constructor(datatype: usize, arguments: SortList) -> GhostDeclaration {
-    GhostDeclaration::Constructor(Constructor {
-        datatype,
-        arguments,
-    })
-}
-
-/// A fixpoint with one type parameter.
-fn fixpoint(arguments: SortList, given: Sort) -> GhostDeclaration {
-    GhostDeclaration::Fixpoint(Fixpoint {
-        parameters: 1,
-        arguments,
-        result: given,
-    })
-}
-
-/// `inductive list<t> = nil | cons(t, list<t>); inductive unit = tt; fixpoint int len<t>(list<t> xs) ..
-/// fixpoint t first<t>(list<t> xs, t d) ..`
-fn values(alloc: Global) -> Result<Sequence<GhostDeclaration>, Stop> {
-    let mut ghosts = Sequence::new(alloc);
-    ghosts.push(GhostDeclaration::Datatype(0))?;
-    ghosts.push(constructor(0, SortList::new(alloc)))?;
-    ghosts.push(constructor(0, cons_arguments(alloc)?))?;
-    ghosts.push(GhostDeclaration::Datatype(1))?;
-    ghosts.push(constructor(1, SortList::new(alloc)))?;
-    let lists = one(alloc, list_of(alloc, Head::Parameter(0))?)?;
-    ghosts.push(fixpoint(lists, leaf(alloc, Head::Int)))?;
-    let element = leaf(alloc, Head::Parameter(0));
-    ghosts.push(fixpoint(first_arguments(alloc)?, element))?;
-    Ok(ghosts)
-}
-
-/// These, and `predicate owned(int x) ..  predicate_ctor held(int x)(bool y) ..
-/// predicate_family part(int i)(int x); lemma void known(int x) ..`
-fn ghosts(alloc: Global) -> Result<Sequence<GhostDeclaration>, Stop> {
-    let mut ghosts = values(alloc)?;
-    let integer = one(alloc, leaf(alloc, Head::Int))?;
-    ghosts.push(GhostDeclaration::Predicate(integer))?;
-    ghosts.push(GhostDeclaration::PredicateConstructor(PredicateConstructor {
-        first: one(alloc, leaf(alloc, Head::Int))?,
-        second: one(alloc, leaf(alloc, Head::Bool))?,
-    }))?;
-    ghosts.push(GhostDeclaration::Family(Family {
-        index: leaf(alloc, Head::Int),
-        arguments: one(alloc, leaf(alloc, Head::Int))?,
-    }))?;
-    ghosts.push(GhostDeclaration::Lemma(Lemma {
-        parameters: 0,
-        arguments: one(alloc, leaf(alloc, Head::Int))?,
-    }))?;
-    Ok(ghosts)
-}
-
-/// The names of these, the function type `work` and the function `g`.
-fn declarations(alloc: Global) -> Result<(Names, Stack<Declaration>), Stop> {
-    let mut names = Names::new(alloc);
-    let mut declarations = Stack::new(alloc);
-    for (name, meaning) in [
-        ("list", Meaning::Ghost(0)),
-        ("nil", Meaning::Ghost(1)),
-        ("cons", Meaning::Ghost(2)),
-        ("unit", Meaning::Ghost(3)),
-        ("tt", Meaning::Ghost(4)),
-        ("len", Meaning::Ghost(5)),
-        ("first", Meaning::Ghost(6)),
-        ("owned", Meaning::Ghost(7)),
-        ("held", Meaning::Ghost(8)),
-        ("part", Meaning::Ghost(9)),
-        ("known", Meaning::Ghost(10)),
-        ("work", Meaning::FunctionType(0)),
-        ("g", Meaning::Function(0)),
-    ] {
-        names.put(name.as_bytes())?;
-        declarations.push(Declaration {
-            meaning,
-            files: own_file(alloc)?,
-        })?;
-    }
-    Ok((names, declarations))
-}
-
-/// The datatypes, by their numbers.
-fn datatypes(alloc: Global) -> Result<Sequence<Datatype>, Stop> {
-    let mut lists = NumberList::new(alloc);
-    lists.push(1)?;
-    lists.push(2)?;
-    let mut units = NumberList::new(alloc);
-    units.push(4)?;
-    let mut datatypes = Sequence::new(alloc);
-    datatypes.push(Datatype {
-        parameters: 1,
-        constructors: lists,
-    })?;
-    datatypes.push(Datatype {
-        parameters: 0,
-        constructors: units,
-    })?;
-    Ok(datatypes)
-}
-
-/// The functions, or the function types: one that takes an int and gives one.
-fn signatures(alloc: Global) -> Result<Sequence<Signature>, Stop> {
-    let mut parameters = Sequence::new(alloc);
-    parameters.push(CType::Integer(IntType::Int))?;
-    let mut signatures = Sequence::new(alloc);
-    signatures.push(Signature {
-        result: CType::Integer(IntType::Int),
-        parameters,
-    })?;
-    Ok(signatures)
-}
-
-/// All of these in a unit of one file, in which a predicate `late` of a pointer stands later.
-fn scope(alloc: Global) -> Result<Scope, Stop> {
-    let (names, declared) = declarations(alloc)?;
-    let mut predicates = Names::new(alloc);
-    predicates.put("late".as_bytes())?;
-    let mut predicate_files = Sequence::new(alloc);
-    predicate_files.push(own_file(alloc)?)?;
-    let mut predicate_sorts = Sequence::new(alloc);
-    predicate_sorts.push(one(alloc, leaf(alloc, POINTER))?)?;
-    Ok(Scope {
-        file: 0,
-        headers: Sequence::new(alloc),
-        preludes: NumberList::new(alloc),
-        has_stdlib: false,
-        has_arrays: false,
-        locals: locals(alloc)?,
-        names,
-        declarations: declared,
-        predicates,
-        predicate_files,
-        predicate_sorts,
-        tags: Names::new(alloc),
-        structures: Stack::new(alloc),
-        functions: signatures(alloc)?,
-        sides: Stack::new(alloc),
-        function_types: signatures(alloc)?,
-        ghosts: ghosts(alloc)?,
-        datatypes: datatypes(alloc)?,
-    })
-}
-
 /// A postcondition, where `result` is an int; or another place, where there are no such words.
 fn context(alloc: Global, is_postcondition: bool) -> Context {
     Context {
         result: if is_postcondition {
-            Some(leaf(alloc, Head::Int))
+            Some(Sort::leaf(alloc, Head::Int))
         } else {
             None
         },
@@ -291,7 +72,7 @@ fn found(alloc: Global, text: &str, is_postcondition: bool) -> Result<Answer, St
         left: tokens.as_slice(),
     };
     let tree = term(&mut cursor, 9)?;
-    let surroundings = scope(alloc)?;
+    let surroundings = sample(alloc)?;
     let context = context(alloc, is_postcondition);
     let mut unknowns = Unknowns::new(alloc);
     match sorted(alloc, &surroundings, &context, &mut unknowns, &tree) {
@@ -373,7 +154,7 @@ fn pointers(rt: HostRuntime) -> Result<(), Fail> {
     }
     for text in ["p", "(b ? p : 0)", "first(cons(p, nil), 0)"] {
         assert!(rt;
-            has_head(rt.alloc(), text, Head::Pointer(Some(4))),
+            has_head(rt.alloc(), text, Head::Pointer(Some(0))),
             "at {text}"
         );
     }
@@ -391,7 +172,7 @@ fn datatypes_and_predicates(rt: HostRuntime) -> Result<(), Fail> {
         ("nil", LIST, Head::Any),
         ("xs", LIST, Head::Int),
         ("cons(1, nil)", LIST, Head::Int),
-        ("cons(p, nil)", LIST, Head::Pointer(Some(4))),
+        ("cons(p, nil)", LIST, Head::Pointer(Some(0))),
         ("cons(xs, nil)", LIST, LIST),
         ("owned", Head::Predicate, Head::Int),
         ("r", Head::Predicate, Head::Int),
@@ -504,9 +285,9 @@ fn passes(alloc: Global, text: &str, wanted: Head) -> Result<Option<Answer>, Sto
         left: tokens.as_slice(),
     };
     let tree = term(&mut cursor, 9)?;
-    let surroundings = scope(alloc)?;
+    let surroundings = sample(alloc)?;
     let context = context(alloc, true);
-    let wanted = leaf(alloc, wanted);
+    let wanted = Sort::leaf(alloc, wanted);
     let mut unknowns = Unknowns::new(alloc);
     if !unknowns.has(&wanted) {
         return Err(Stop::Memory);
@@ -562,7 +343,7 @@ fn written(alloc: Global, text: &str) -> Result<Answer, Stop> {
         left: tokens.as_slice(),
     };
     let tree = sort(&mut cursor, 9)?;
-    let surroundings = scope(alloc)?;
+    let surroundings = sample(alloc)?;
     let mut parameters = Names::new(alloc);
     parameters.put("t".as_bytes())?;
     match written_sort(alloc, &surroundings, &parameters, &tree) {

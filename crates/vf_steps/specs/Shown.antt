@@ -42,6 +42,11 @@ action_of (actions.If comparison left right so otherwise) = tree.if_ comparison 
 action_of (actions.Return v) = tree.return_ (option_map value_of v)
 action_of (actions.Jump n) = tree.jump n
 action_of (actions.Unset local) = tree.unset local
+action_of (actions.Ghost command) = tree.ghost command.now
+action_of (actions.Loop invariant len last) = tree.loop invariant.now len last
+action_of (actions.Back n) = tree.back n
+action_of actions.Exit = tree.exit
+action_of actions.NoReturn = tree.no_return
 
 -- a node
 abbrev pub node_of : Node → NodeTree

@@ -3,6 +3,8 @@
 use crate::value::Value;
 use vf_base::{Place, Sequence};
 use vf_core::Comparison;
+use vf_syntax::contract::Invariant;
+use vf_syntax::ghost_command::GhostCommand;
 
 /// A field: the number of its struct, and its place in the struct's body, counted from 0.
 #[derive(Clone, Copy, Debug, PartialEq, Eq)]
@@ -11,12 +13,14 @@ pub struct FieldNumber {
     pub index: usize,
 }
 
-/// What a node of a body does. All but an `If`, a `Jump` and a `Return` go on at the next node.
+/// What a node of a body does. All but an `If`, a `Jump`, a `Back`, a `Return` and a `NoReturn` go on at the next node.
+///
+/// Ghost commands and invariants are those of the text, and are not copied.
 ///
 /// The place of a field access is its `->`, of an array access its `[`, of a pointer sum its `+`, of the length of an
 /// allocation its `*`, of `free` that word, and of another call its first token.
-#[derive(Debug, Drop)]
-pub enum Action {
+#[derive(Drop)]
+pub enum Action<'a> {
     /// Evaluates the value into a local.
     Set {
         local: usize,
@@ -110,11 +114,26 @@ pub enum Action {
     Jump(usize),
     /// A local is declared that has no value yet. It is no step.
     Unset(usize),
+    /// A ghost command. It is no step.
+    Ghost(&'a GhostCommand),
+    /// The head of a loop of so many nodes, which follow, with its invariant where it has one; the place is the last token
+    /// of the loop's body. It is no step.
+    Loop {
+        invariant: &'a Option<Invariant>,
+        length: usize,
+        last: Place,
+    },
+    /// Goes back over so many nodes, to the first behind the head of the loop. It is no step.
+    Back(usize),
+    /// The end of a loop. It is no step.
+    Exit,
+    /// The end of a body that owes a value, at its closing brace. It is no step.
+    NoReturn,
 }
 
 /// A node of a body, and the place of the first token of the statement that it is part of.
-#[derive(Debug, Drop)]
-pub struct Node {
+#[derive(Drop)]
+pub struct Node<'a> {
     pub statement: Place,
-    pub action: Action,
+    pub action: Action<'a>,
 }

@@ -1,6 +1,10 @@
 //! Values that a step computes.
 
-use vf_base::{IntType, Place};
+ghost use Rattle.std.specs.Prelude.{◌≡◌, IfOk};
+ghost use Rattle.vf_steps.specs.Shown.{value_of};
+
+use std::alloc::Global;
+use vf_base::{IntType, Memory, Place};
 use vf_core::Operator;
 
 /// A value that a step computes without an access to memory and without a call.
@@ -40,4 +44,51 @@ pub enum Value {
         value: Box<Value>,
         place: Place,
     },
+}
+
+impl Value {
+    /// The same value again.
+    pub fn copy(&self, alloc: Global) -> Result<Value, Memory>
+        ensures { IfOk result (λ value. value_of value ≡ value_of self.now) }
+    {
+        Ok(match self {
+            Value::Read { local, place } => Value::Read {
+                local: *local,
+                place: *place,
+            },
+            Value::Number(number) => Value::Number(*number),
+            Value::Truth(truth) => Value::Truth(*truth),
+            Value::Null => Value::Null,
+            Value::Function(function) => Value::Function(*function),
+            Value::Negate { of, value, place } => Value::Negate {
+                of: *of,
+                value: Box::new(alloc, value.copy(alloc)?)?,
+                place: *place,
+            },
+            Value::Arithmetic {
+                operator,
+                of,
+                left,
+                right,
+                place,
+            } => Value::Arithmetic {
+                operator: *operator,
+                of: *of,
+                left: Box::new(alloc, left.copy(alloc)?)?,
+                right: Box::new(alloc, right.copy(alloc)?)?,
+                place: *place,
+            },
+            Value::Convert {
+                from,
+                to,
+                value,
+                place,
+            } => Value::Convert {
+                from: *from,
+                to: *to,
+                value: Box::new(alloc, value.copy(alloc)?)?,
+                place: *place,
+            },
+        })
+    }
 }

@@ -191,6 +191,7 @@ fn scope(alloc: Global, has_stdlib: bool, has_arrays: bool) -> Result<Scope, Sto
         sides: Stack::new(alloc),
         function_types,
         ghosts: Sequence::new(alloc),
+        ghost_sides: Stack::new(alloc),
         datatypes: Sequence::new(alloc),
     })
 }

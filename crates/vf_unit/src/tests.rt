@@ -2,7 +2,7 @@ use crate::plain::parse_plain;
 use crate::whole::parse;
 use std::alloc::Global;
 use std::test::Fail;
-use vf_base::{Memory, NumberList, Place};
+use vf_base::{Memory, NumberList, Place, Sequence};
 use vf_expand::UnitTokens;
 use vf_lexer::lex;
 use vf_parse_c::fault::ParseFault;
@@ -34,6 +34,7 @@ fn unit(alloc: Global, text: &[u8]) -> Result<UnitTokens, Memory> {
     Ok(UnitTokens {
         tokens,
         headers,
+        includes: Sequence::new(alloc),
         end: END,
     })
 }

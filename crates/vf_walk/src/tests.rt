@@ -84,6 +84,7 @@ fn scope(alloc: Global, has_stdlib: bool) -> Result<Scope, Memory> {
         sides: Stack::new(alloc),
         function_types: Sequence::new(alloc),
         ghosts: Sequence::new(alloc),
+        ghost_sides: Stack::new(alloc),
         datatypes: Sequence::new(alloc),
     })
 }

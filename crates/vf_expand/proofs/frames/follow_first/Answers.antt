@@ -1,9 +1,8 @@
-use Rattle.std.proofs.Common.{Ok, subst, sym}
+use Rattle.std.proofs.Common.{Ok, subst}
 use Rattle.vf_preproc.specs.LineSteps.{file_of, line_included, StepGives}
 use Rattle.vf_preproc.specs.Scopes.{scope_of}
 use Rattle.vf_preproc.specs.UnitText.{line}
 use Rattle.vf_preproc.specs.Units.{unit_of}
-use Rattle.vf_expand.specs.Remembered.{Keeps}
 use Rattle.vf_expand.proofs.Remembering.{line_keeps, same_keeps}
 use Rattle.vf_expand.proofs.frames.follow_first.Goals as goal
 

@@ -16,6 +16,6 @@ returns-clause-remembers c =
     let path : c.as_bytes.result.now ≡ c.args.include.path = c.as_bytes.ensures in
     walk_begins c.args.walk (record { unit = c.begin.new.self; stack = c.wait.new.stack; current = c.in_ok-header.header })
     (record { file = c.args.walk.current; hash = c.args.include.hash; is_ghost = c.args.include.is_ghost; number = c.in_ok-number.number })
-    (c.args.walk.unit.headers ++ c.args.loaded.number ∷ []) c.as_bytes.result.now
+    (c.args.walk.unit.headers ++ c.args.loaded.number ∷ []) c.as_bytes.result.now c.as_slice.result.now
     c.requires.remembers refl c.in_ok-number.ensures.number c.in_ok-number.ensures.begun c.in_ok-wait.ensures.waiting c.in_ok-header.ensures.joins
-    (ap (λ (o : Going). o.scope.macros) c.in_ok-header.ensures.going)
+    (ap (λ (o : Going). o.scope) c.in_ok-header.ensures.going)

@@ -21,4 +21,4 @@ pub returns-clause-remembers : goal.returns-clause-remembers
 returns-clause-remembers c =
     walk_resumes c.args.unit c.finish.new.unit c.args.waiting (reverse c.args.stack.items)
     (record { unit = c.finish.new.unit; stack = c.args.stack; current = record c.args.waiting.file { scope = c.with_header.new.scope } })
-    (header_of c.args.header) c.requires.remembers c.in_ok-with_header.ensures c.finish.ensures.finished refl refl refl
+    (header_of c.args.header) c.requires.named c.requires.below c.requires.remembers c.in_ok-with_header.ensures c.finish.ensures.finished refl refl refl

@@ -19,7 +19,7 @@ pub returns-in-Ends-clause-exact : goal.returns-in-Ends-clause-exact
 returns-in-Ends-clause-exact g c = λ library tells.
     let before = c.steps.invariant.exact library (tells_before library c.steps.snapshot c.go_on.new.snapshot c.go_on.ensures.reads.grows tells) in
     let ended = subst (λ n. NextGives (walk_text library c.steps.state) library (Ok n)) c.in-Ends.is (c.in_ok-next.ensures.exact library tells) in
-    (ended.0, before ∙ ended.1)
+    record { before = ended.before; header = ended.header; gives = before ∙ ended.gives; complete = ended.complete }
 
 pub returns-in-Ends-clause-reads : goal.returns-in-Ends-clause-reads
 returns-in-Ends-clause-reads g c = reads_then _ _ _ c.steps.invariant.reads c.go_on.ensures.reads

@@ -1,5 +1,6 @@
-use Rattle.std.proofs.Common.{rules, arith, ◌≡◌, ◌∷◌, None, slice_get, sym, ap, ◌∙◌, subst}
+use Rattle.std.proofs.Common.{rules, arith, ◌≡◌, ◌∷◌, None, slice_get, refl, sym, ap, ◌∙◌, subst}
 use Rattle.vf_ctypes.specs.Types.{promoted}
+use Rattle.vf_declared.specs.declared.ctype.CType.{CType}
 use Rattle.vf_declared.specs.declared.ctype.CType.TheVariants as types
 use Rattle.vf_syntax.specs.ExprTree.{expr_list, link_list, postfix_list}
 use Rattle.vf_syntax.specs.ExprTree as tree
@@ -14,7 +15,7 @@ use Rattle.vf_lower.specs.Operands as operands
 use Rattle.vf_lower.specs.Expressions.{arguments, behind, only_argument, outcome}
 use Rattle.vf_lower.specs.Shown.{left_of, outcome_of, setting_of, test_of}
 use Rattle.vf_lower.specs.Did.{Did, Does}
-use Rattle.vf_lower.proofs.Parts.{did_either, did_give, did_given, did_then, does_same, does_then}
+use Rattle.vf_lower.proofs.Parts.{did_either, did_give, did_given, did_then, does_give, does_same, does_then}
 use Rattle.vf_lower.proofs.Calls.{free_called, not_called, not_free}
 use Rattle.vf_lower.proofs.Loops.{arguments_end, arguments_more, links_end, links_more, parameters_end, parts_end, parts_more, values_end, values_more}
 use Rattle.vf_lower.proofs.expr.+expr.Goals as goal
@@ -60,10 +61,11 @@ arithmetic-returns t c =
     let l = left_of c.args.left in
     let o = c.args.operator in
     let same : c.result_type-ctype.result ≡ result_type o l.kind.ctype (kind s b).ctype = c.result_type-ctype.ensures ∙ ap (λ x. result_type o l.kind.ctype x.ctype) c.find_kind.ensures in
-    subst (λ u. Did (left_passed s c.args.place u l ⨾ (λ v. passed s u b (outcome s b) ⨾ (λ w. gives (operands.is (steps.arithmetic (arithmetic_operator o) (integer_in u) v w c.args.at))))) c.args.draft.now c.passed.new.draft (operands.is (steps.arithmetic c.arithmetic_operator.result c.integer_in.result (value_of c.in_ok-new.field-0.value) (value_of c.in_ok-new-2.field-0.value) c.args.at))) same (did_then _ _ _ _ _ _ _ c.in_ok-first.ensures (did_then _ _ _ _ _ _ _ c.in_ok-second.ensures (did_given _ _ _ (search rules))))
+    let whole = λ (u : CType). left_passed s c.args.place u l ⨾ (λ v. passed s u b (outcome s b) ⨾ (λ w. gives (operands.is (steps.arithmetic (arithmetic_operator o) (integer_in u) v w c.args.at)))) in
+    does_same outcome_of _ (whole c.result_type-ctype.result) _ _ _ (ap whole (sym same)) (does_then outcome_of _ _ _ _ _ _ _ c.in_ok-first.ensures (does_then outcome_of _ _ _ _ _ _ _ c.in_ok-second.ensures (does_give outcome_of _ _ _ _ refl c.computed.ensures)))
 
 pub pointer_sum-returns : goal.pointer_sum-returns
-pointer_sum-returns t c = did_then _ _ _ _ _ _ _ c.in_ok-pointer.ensures (did_then _ _ _ _ _ _ _ c.in_ok-by.ensures (did_then _ _ _ _ _ _ _ c.in_ok-local.ensures (did_then _ _ _ _ _ _ _ c.in_ok-add.ensures (did_give _ _))))
+pointer_sum-returns t c = does_then outcome_of _ _ _ _ _ _ _ c.in_ok-pointer.ensures (does_then outcome_of _ _ _ _ _ _ _ c.in_ok-by.ensures c.offset.ensures)
 
 pub compared-returns : goal.compared-returns
 compared-returns t c =

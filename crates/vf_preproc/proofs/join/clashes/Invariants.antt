@@ -1,10 +1,8 @@
--- None of the names so far clashes.
-use Rattle.std.proofs.Common.{◌≡◌, ◌&&◌, false, take, not}
-use Rattle.std.specs.Prelude.{is_some}
-use Rattle.std.specs.List.{list_any}
-use Rattle.vf_preproc.specs.Macros.{body_of}
-use Rattle.vf_preproc.specs.Kept.{table_of}
+-- None of the macros so far would clash.
+use Rattle.std.proofs.Common.{◌≡◌, ◌≤◌, ◌<◌, ℕ, List, false, Some, slice_get}
+use Rattle.vf_preproc.specs.Scopes.{header_of}
+use Rattle.vf_preproc.specs.Joins.{is_foreign}
 use Rattle.vf_preproc.proofs.join.clashes.Given as goal
 
-abbrev pub invariant-loop-name : goal.invariant-loop-name
-invariant-loop-name l = list_any (λ name. is_some (body_of (table_of l.macros) name) && not (is_some (body_of (table_of l.header.macros) name))) (take l.name-index l.header.names) ≡ false
+abbrev pub invariant-loop-at : goal.invariant-loop-at
+invariant-loop-at l = (k : ℕ) (name : List ℕ) → l.known ≤ k → k < l.at → slice_get l.macros.names k ≡ Some name → is_foreign l.names (header_of l.header) name ≡ false

@@ -82,6 +82,23 @@ shortened-requires-clause-after c =
     rw c.deref-5.ensures.value
     (rows_small c.self.inside.width c.self.inside.edges.items c.self.inside.cyclic c.self.inside.matrix.items c.deref-2.result.now c.in_ok-after.after.items c.args.edge.to is c.if-self.false c.deref-2.ensures.value tw c.in_ok-after.ensures)
 
+pub shortened-requires-clause-triangles : goal.shortened-requires-clause-triangles
+shortened-requires-clause-triangles c =
+    let is = matrix_of c.self.inside.size c.self.inside.width c.self.inside.edges.items c.self.inside.cyclic c.self.inside.matrix.items c.self.inside.layers.items c.self.invariant in
+    rw (c.deref-3.ensures.value, c.deref-4.ensures.value, c.in_ok-before.ensures.0) ((is.exact c.if-self.false).triangle)
+
+pub shortened-requires-clause-start : goal.shortened-requires-clause-start
+shortened-requires-clause-start c =
+    let s : c.args.edge.from < c.self.inside.size = omega (arith, c.requires.from, ap (λ (a : Network). a.size) c.self.view_is) in
+    let r = (within c.self.inside.size c.self.inside.width c.self.inside.edges.items c.self.inside.cyclic c.self.inside.matrix.items c.self.inside.layers.items c.self.invariant).0 in
+    rw (c.deref-4.ensures.value, c.in_ok-before.ensures.0) (omega (arith, s, r))
+
+pub shortened-requires-clause-end : goal.shortened-requires-clause-end
+shortened-requires-clause-end c =
+    let t : c.args.edge.to < c.self.inside.size = omega (arith, c.requires.to, ap (λ (a : Network). a.size) c.self.view_is) in
+    let r = (within c.self.inside.size c.self.inside.width c.self.inside.edges.items c.self.inside.cyclic c.self.inside.matrix.items c.self.inside.layers.items c.self.invariant).0 in
+    rw (c.deref-4.ensures.value, c.in_ok-before.ensures.0) (omega (arith, t, r))
+
 pub shorten-requires-clause-before : goal.shorten-requires-clause-before
 shorten-requires-clause-before c =
     let s : c.args.edge.from < c.self.inside.size = omega (arith, c.requires.from, ap (λ (a : Network). a.size) c.self.view_is) in

@@ -1,7 +1,6 @@
-use Rattle.std.proofs.Common.{◌≡◌, Some, true, ◌||◌, ap, refl, rules}
+use Rattle.std.proofs.Common.{◌≡◌, ap}
 use Rattle.vf_declared.specs.declared.declaration.Declaration.{Declaration}
 use Rattle.vf_declared.specs.Writing.{changed, with_file}
-use Rattle.vf_declared.specs.declared.scope.Scope.{Scope}
 use Rattle.vf_declared.proofs.Lists.{put_back}
 use Rattle.vf_declared.proofs.scope.Scope.declare_name_again.Goals as goal
 

@@ -1,7 +1,6 @@
-use Rattle.std.proofs.Common.{◌≡◌, Some, true, ◌||◌, ap, refl, rules}
+use Rattle.std.proofs.Common.{◌≡◌, Some, ap, refl}
 use Rattle.vf_declared.specs.declared.declaration.Sides.{Sides}
 use Rattle.vf_declared.specs.Writing.{changed}
-use Rattle.vf_declared.specs.declared.scope.Scope.{Scope}
 use Rattle.vf_declared.proofs.Lists.{put_back}
 use Rattle.vf_declared.proofs.scope.Scope.declare_prototype.Goals as goal
 

@@ -1,0 +1,5 @@
+pub mod Lists
+pub mod Parts
+pub mod Nodes
+pub mod Back
+pub mod Loops

@@ -1,0 +1,6 @@
+use Rattle.std.proofs.Common.{rules}
+use Rattle.vf_lower.proofs.Parts.{did_given}
+use Rattle.vf_bodies.proofs.change.changes_at.Goals as goal
+
+pub returns : goal.returns
+returns c = did_given _ _ _ (search rules)

@@ -1,0 +1,12 @@
+use Rattle.std.proofs.Common.{◌≡◌, ap}
+use Rattle.vf_lower.specs.Statements.{with_variable}
+use Rattle.vf_lower.proofs.Parts.{did_then}
+use Rattle.vf_bodies.specs.Standing.{standing_of}
+use Rattle.vf_bodies.proofs.Parts.{did_gives}
+use Rattle.vf_bodies.proofs.declaration.declare_unset.Goals as goal
+
+pub returns : goal.returns
+returns c =
+    let more : standing_of c.declare.new.around ≡ with_variable (standing_of c.args.around.now) c.args.name.now.text c.args.ctype c.in_ok-local.local = c.in_ok-local.ensures.declared in
+    let stays : c.declare.new.around.statement ≡ c.args.around.now.statement = ap (λ x. x.statement) more in
+    did_then _ _ _ _ _ _ _ c.in_ok-local.ensures.taken (did_then _ _ _ _ _ _ _ (rw stays at c.in_ok-add.ensures) (did_gives _ _ _ more))

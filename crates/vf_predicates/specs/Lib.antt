@@ -1,0 +1,4 @@
+pub mod Bodies
+pub mod Earlier
+pub mod Predicates
+pub mod Instances

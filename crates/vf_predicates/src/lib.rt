@@ -1,0 +1,19 @@
+//! What predicates, predicate constructors and bodies of families declare.
+//!
+//! [`declare_predicate`] and [`declare_predicate_body`] go over a predicate, which may be declared once without a body
+//! and once with one; [`declare_constructor_body`] over a predicate constructor, and [`declare_instance`] over a body of
+//! a family for a function. Each leaves what is declared behind it, or refuses its first fault in the order of the text.
+#![tactic(auto)]
+
+mod alike;
+mod bodies;
+mod earlier;
+mod instances;
+mod predicates;
+
+pub use alike::are_same;
+pub use instances::declare_instance;
+pub use predicates::{declare_constructor_body, declare_predicate, declare_predicate_body};
+
+#[cfg(test)]
+mod tests;
