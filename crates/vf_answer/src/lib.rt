@@ -7,8 +7,6 @@
 mod answer;
 mod asking;
 mod laws;
-#[cfg(test)]
-mod tests;
 
 pub use answer::{Answer, answered};
 pub use asking::{can_be_denied, denied, question};

@@ -8,7 +8,5 @@
 mod bounds;
 mod journal;
 mod matrix;
-#[cfg(test)]
-mod tests;
 
 pub use bounds::{Bounds, Edge, MOST_POINTS, Step, is_small};

@@ -12,6 +12,3 @@ mod distinct;
 pub mod switches;
 
 pub use assertions::{assertion_given, part_given};
-
-#[cfg(test)]
-mod tests;

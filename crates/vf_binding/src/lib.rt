@@ -19,6 +19,3 @@ pub use chunks::{arguments_bound, chunk_bound, taken_bound};
 pub use heads::head_list_checked;
 pub use patterns::pattern_bound;
 pub use shares::share_bound;
-
-#[cfg(test)]
-mod tests;

@@ -19,6 +19,3 @@ pub use body::lower_body;
 pub use simple::lower_simple;
 pub use statement::lower_statement;
 pub use surroundings::{Mark, Surroundings};
-
-#[cfg(test)]
-mod tests;

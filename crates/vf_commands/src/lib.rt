@@ -14,8 +14,6 @@ mod calls;
 mod commands;
 mod opening;
 mod switches;
-#[cfg(test)]
-mod tests;
 
 pub use around::{Around, around_statements};
 pub use bodies::{body_given, command_given};

@@ -8,8 +8,6 @@
 mod classes;
 mod explaining;
 mod joining;
-#[cfg(test)]
-mod tests;
 
 pub use classes::{Classes, derive_equality};
 pub use joining::{join_and_settle, settle};

@@ -7,7 +7,5 @@
 
 mod contexts;
 mod contracts;
-#[cfg(test)]
-mod tests;
 
 pub use contracts::{contract_given, invariant_given, owned_contract_given};

@@ -18,6 +18,3 @@ mod stated;
 pub use datatype::declare_datatype;
 pub use own::Own;
 pub use stated::Stated;
-
-#[cfg(test)]
-mod tests;

@@ -7,8 +7,6 @@
 mod bound;
 mod checking;
 mod conflict;
-#[cfg(test)]
-mod tests;
 
 pub use bound::why_bound;
 pub use checking::{are_of_integers, are_reasons};

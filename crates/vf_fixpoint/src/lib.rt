@@ -9,7 +9,5 @@ mod calls;
 mod cases;
 mod check;
 pub mod laws;
-#[cfg(test)]
-mod tests;
 
 pub use check::check_fixpoint;

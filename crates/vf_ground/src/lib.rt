@@ -7,8 +7,6 @@
 mod exchange;
 mod fine;
 mod gather;
-#[cfg(test)]
-mod tests;
 mod verdict;
 
 pub use exchange::{Lack, lack_at};

@@ -7,8 +7,6 @@
 
 mod growing;
 mod journal;
-#[cfg(test)]
-mod tests;
 
 pub use growing::GrowingClasses;
 pub use journal::Step;

@@ -9,6 +9,3 @@ mod heads;
 pub mod parameters;
 
 pub use heads::{declare_family, declare_fixpoint, declare_predicate_constructor};
-
-#[cfg(test)]
-mod tests;

@@ -6,8 +6,6 @@
 
 mod copying;
 mod log;
-#[cfg(test)]
-mod tests;
 
 pub use copying::copy_table;
 pub use log::Log;

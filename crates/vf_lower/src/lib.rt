@@ -22,6 +22,3 @@ pub use operand::{Access, Left, Outcome, as_value, left_passed, set_local};
 pub use operator::{is_void, result_type};
 pub use setting::{Kind, Setting, find_kind, place_of};
 pub use test::Test;
-
-#[cfg(test)]
-mod tests;

@@ -10,8 +10,6 @@ mod expr;
 pub mod laws;
 mod seen;
 mod stmt;
-#[cfg(test)]
-mod tests;
 mod unit;
 
 pub use unit::first_unordered;

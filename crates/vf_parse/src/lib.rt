@@ -3,5 +3,3 @@
 
 pub mod annotations;
 pub mod parse;
-#[cfg(test)]
-mod tests;

@@ -10,5 +10,3 @@
 pub mod assertions;
 pub mod contents;
 pub mod laws;
-#[cfg(test)]
-mod tests;

@@ -6,7 +6,5 @@
 
 pub mod fault;
 pub mod plain;
-#[cfg(test)]
-mod tests;
 pub mod unit;
 pub mod unsupported;

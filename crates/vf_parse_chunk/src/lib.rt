@@ -7,5 +7,3 @@
 pub mod chunks;
 pub mod laws;
 pub mod pieces;
-#[cfg(test)]
-mod tests;

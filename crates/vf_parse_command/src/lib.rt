@@ -7,5 +7,3 @@
 pub mod commands;
 pub mod flat;
 pub mod laws;
-#[cfg(test)]
-mod tests;

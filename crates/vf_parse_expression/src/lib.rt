@@ -7,5 +7,3 @@
 pub mod expr;
 pub mod laws;
 pub mod operands;
-#[cfg(test)]
-mod tests;

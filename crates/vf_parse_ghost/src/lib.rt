@@ -10,5 +10,3 @@ pub mod fixpoints;
 pub mod items;
 pub mod laws;
 pub mod parameters;
-#[cfg(test)]
-mod tests;

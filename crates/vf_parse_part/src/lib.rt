@@ -3,5 +3,3 @@
 
 pub mod laws;
 pub mod part;
-#[cfg(test)]
-mod tests;

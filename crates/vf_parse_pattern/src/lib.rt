@@ -8,5 +8,3 @@ pub mod laws;
 pub mod names;
 pub mod patterns;
 pub mod shares;
-#[cfg(test)]
-mod tests;

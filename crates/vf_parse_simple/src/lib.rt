@@ -7,5 +7,3 @@
 pub mod forms;
 pub mod laws;
 pub mod simple;
-#[cfg(test)]
-mod tests;

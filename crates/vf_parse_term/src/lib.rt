@@ -7,5 +7,3 @@
 pub mod laws;
 pub mod sorts;
 pub mod terms;
-#[cfg(test)]
-mod tests;

@@ -14,6 +14,3 @@ mod predicates;
 pub use alike::are_same;
 pub use instances::declare_instance;
 pub use predicates::{declare_constructor_body, declare_predicate, declare_predicate_body};
-
-#[cfg(test)]
-mod tests;

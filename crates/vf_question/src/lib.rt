@@ -12,8 +12,6 @@ mod numbering;
 mod plain;
 mod question;
 mod table;
-#[cfg(test)]
-mod tests;
 mod unfolding;
 mod verdict;
 

@@ -9,8 +9,6 @@
 mod checking;
 mod rows;
 mod steps;
-#[cfg(test)]
-mod tests;
 
 pub use checking::recheck;
 pub use rows::derive;

@@ -7,8 +7,6 @@
 mod exchange;
 mod gather;
 mod run;
-#[cfg(test)]
-mod tests;
 mod verdict;
 
 pub use gather::sums_are_of_integers;

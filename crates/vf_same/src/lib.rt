@@ -16,7 +16,5 @@ pub mod signature;
 pub mod simple;
 pub mod sort;
 pub mod stmt;
-#[cfg(test)]
-mod tests;
 pub mod unit;
 pub mod written;

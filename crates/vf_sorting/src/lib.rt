@@ -23,6 +23,3 @@ pub use context::Context;
 pub use scheme::Scheme;
 pub use sorts::{checked, sorted};
 pub use written::written_sort;
-
-#[cfg(test)]
-mod tests;

@@ -5,8 +5,6 @@
 #![tactic(auto)]
 
 mod node;
-#[cfg(test)]
-mod tests;
 
 pub use node::{
     Head, Node, Shift, have_clashing_heads, have_one_head, is_injective, is_integer, is_zero,

@@ -14,8 +14,6 @@ mod operators;
 mod passing;
 mod refusal;
 mod simple;
-#[cfg(test)]
-mod tests;
 mod types;
 mod written;
 

@@ -11,8 +11,6 @@ mod deciding;
 mod depths;
 mod listed;
 mod searching;
-#[cfg(test)]
-mod tests;
 mod unfolder;
 mod within;
 

@@ -5,6 +5,4 @@
 #![tactic(auto)]
 
 pub mod plain;
-#[cfg(test)]
-mod tests;
 pub mod whole;

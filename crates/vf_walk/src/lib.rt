@@ -12,8 +12,6 @@ mod names;
 mod parameters;
 mod statement;
 mod structure;
-#[cfg(test)]
-mod tests;
 mod variable;
 
 pub use annotations::{Annotations, NoAnnotations, Owner};
