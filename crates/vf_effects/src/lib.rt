@@ -8,7 +8,5 @@ mod effects;
 mod mutexes;
 mod output;
 mod starts;
-#[cfg(test)]
-mod tests;
 
 pub use effects::apply;

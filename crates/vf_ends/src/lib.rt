@@ -2,7 +2,5 @@
 #![tactic(auto)]
 
 mod ends;
-#[cfg(test)]
-mod tests;
 
 pub use ends::settled;

@@ -14,8 +14,3 @@ mod whole;
 
 pub use laws::snapshots_are_told;
 pub use whole::{UnitTokens, expand};
-
-#[cfg(test)]
-mod sizes;
-#[cfg(test)]
-mod tests;

@@ -3,8 +3,6 @@
 #![tactic(auto)]
 
 mod faults;
-#[cfg(test)]
-mod tests;
 mod touches;
 
 pub use faults::next_fault;

@@ -11,8 +11,6 @@ mod effect;
 mod machine;
 mod program;
 mod sum;
-#[cfg(test)]
-mod tests;
 mod words;
 
 pub use machine::Machine;

@@ -39,6 +39,3 @@ pub use sources::Loaded;
 pub use steps::{File, Step, follow_line};
 pub use unit::Unit;
 pub use words::{Word, first_line, has_ghost, word_of};
-
-#[cfg(test)]
-mod tests;

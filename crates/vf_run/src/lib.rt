@@ -13,8 +13,6 @@ mod laws;
 mod machine;
 mod opening;
 mod stepping;
-#[cfg(test)]
-mod tests;
 
 pub use acting::next_effect;
 pub use counts::Counts;

@@ -7,8 +7,6 @@ mod load;
 mod reading;
 mod run;
 mod status;
-#[cfg(test)]
-mod tests;
 mod verdict;
 mod words;
 

@@ -9,8 +9,6 @@ mod faults;
 mod following;
 mod races;
 mod sight;
-#[cfg(test)]
-mod tests;
 mod touching;
 
 pub use following::{Finding, trace};

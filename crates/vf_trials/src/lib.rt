@@ -5,12 +5,26 @@
 #![tactic(auto)]
 
 #[cfg(test)]
+mod effects;
+#[cfg(test)]
+mod ends;
+#[cfg(test)]
+mod first_machine;
+#[cfg(test)]
 mod limits;
+#[cfg(test)]
+mod looks;
 #[cfg(test)]
 mod memory;
 #[cfg(test)]
 mod outcomes;
 #[cfg(test)]
 mod programs;
+#[cfg(test)]
+mod steps;
+#[cfg(test)]
+mod traces;
+#[cfg(test)]
+mod turns;
 #[cfg(test)]
 mod waits;

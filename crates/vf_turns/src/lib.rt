@@ -6,8 +6,6 @@
 #![tactic(auto)]
 
 mod event;
-#[cfg(test)]
-mod tests;
 mod turning;
 
 pub use turning::turns;

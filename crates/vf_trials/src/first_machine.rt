@@ -1,9 +1,9 @@
 //! Runs of small programs.
 
-use crate::{Event, FaultKind, Machine, Outcome, Stepped, assemble_one};
 use std::alloc::Global;
 use std::test::Fail;
 use vf_base::{Memory, Place, Sequence, Text};
+use vf_machine::{Event, FaultKind, Machine, Outcome, Stepped, assemble_one};
 use vf_tree::{CoreStep, Expression, Function, Link, Operand, Operator, Plain};
 
 fn at(line: u32, column: u32) -> Place {

@@ -1,8 +1,8 @@
-use crate::{Status, run_words};
 use std::alloc::{AllocError, Global};
 use std::test::Fail;
 use vf_base::{MemoryFiles, MemorySink, NumberList};
 use vf_term::Journal;
+use vf_tool::{Status, run_words};
 
 const FIVE: &str = "[0,0,0,0,0]";
 

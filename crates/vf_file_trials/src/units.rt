@@ -1,8 +1,8 @@
-use super::*;
 use std::alloc::Global;
 use std::process::Abort;
 use std::test::Fail;
 use vf_base::{MemoryFiles, NumberList, Place, Rule};
+use vf_expand::{UnitTokens, expand};
 use vf_preproc::ExpandFault;
 use vf_snapshot::Snapshot;
 

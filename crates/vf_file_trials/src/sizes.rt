@@ -1,10 +1,10 @@
 //! Units of 199,000 tokens in many files, each of which is expanded in a fraction of a second.
 
-use crate::whole::expand;
 use std::alloc::Global;
 use std::process::Abort;
 use std::test::Fail;
 use vf_base::{MemoryFiles, NumberList};
+use vf_expand::expand;
 use vf_snapshot::Snapshot;
 
 /// Names of a file with a number, so many of them.

@@ -1,6 +1,5 @@
 //! Traces of a small program with two threads.
 
-use crate::{Finding, trace};
 use std::alloc::Global;
 use std::test::Fail;
 use vf_base::{IntType, Memory, Place, Sequence, Text};
@@ -10,6 +9,7 @@ use vf_core::{
 use vf_events::Schedule;
 use vf_model::{Event, FaultKind};
 use vf_run::Machine;
+use vf_trace::{Finding, trace};
 
 const STRUCTURE: Name = Name { number: 2 };
 

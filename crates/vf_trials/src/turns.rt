@@ -1,12 +1,12 @@
 //! Turns of a small program with two threads.
 
-use crate::turns;
 use std::alloc::Global;
 use std::test::Fail;
 use vf_base::{IntType, Memory, Place, Sequence, Text};
 use vf_core::{CoreStep, Expression, Function, Name, Scalar, Signature, Unit, assemble_unit};
 use vf_model::Outcome;
 use vf_run::Machine;
+use vf_turns::turns;
 
 const HERE: Place = Place {
     file: 0,

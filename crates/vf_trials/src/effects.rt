@@ -1,9 +1,9 @@
 //! A step.
 
-use crate::apply;
 use std::test::Fail;
 use vf_base::{Sequence, Text};
 use vf_core::{Unit, assemble_unit};
+use vf_effects::apply;
 use vf_engine::{Blocks, Effect, Frame, Running, Thread};
 
 #[test]

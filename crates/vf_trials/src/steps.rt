@@ -1,10 +1,10 @@
 //! Runs of small programs.
 
-use crate::{Event, FaultKind, Machine, Outcome, Stepped, Unit, assemble_unit};
 use std::alloc::Global;
 use std::test::Fail;
 use vf_base::{IntType, Memory, Place, Sequence, Text};
 use vf_core::{CoreStep, Expression, Function, Name, Operator, Scalar, Signature};
+use vf_run::{Event, FaultKind, Machine, Outcome, Stepped, Unit, assemble_unit};
 
 fn at() -> Place {
     Place {

@@ -1,10 +1,13 @@
-use super::*;
 use std::alloc::Global;
 use std::process::Abort;
 use std::test::Fail;
 use vf_base::{NumberList, Place, Rule, Sequence};
 use vf_lexer::{TokenList, lex};
 use vf_names::Names;
+use vf_preproc::{
+    ExpandFault, File, MOST_TOKENS, NameTable, Step, Unit, closed, define, first_line, follow_line,
+    opened, target,
+};
 
 /// The tokens of a short text.
 fn tokens_of(alloc: Global, text: &str) -> Result<TokenList, Fail> {

@@ -1,10 +1,10 @@
 //! Looks at a small program.
 
-use crate::{next_fault, next_touch};
 use std::test::Fail;
 use vf_base::{IntType, Place, Sequence, Text};
 use vf_core::{Function, Name, Scalar, Signature, Unit, assemble_unit};
 use vf_engine::Trouble;
+use vf_looks::{next_fault, next_touch};
 use vf_model::FaultKind;
 use vf_run::Machine;
 

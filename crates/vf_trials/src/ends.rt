@@ -1,9 +1,9 @@
 //! The end of a small program.
 
-use crate::settled;
 use std::test::Fail;
 use vf_base::{IntType, Place, Sequence, Text};
 use vf_core::{CoreStep, Expression, Function, Name, Scalar, Signature, Unit, assemble_unit};
+use vf_ends::settled;
 use vf_model::Event;
 use vf_run::Machine;
 
