@@ -25,7 +25,7 @@ pub trait Annotations {
     ghost use Rattle.vf_walk.specs.Walking.{Follows};
 
     // what annotations may leave declared behind them
-    ghost meanings: { Meanings };
+    ghost meanings: { Self → Meanings };
 
     /// A contract, behind the parameters of its owner; what it leaves behind is visible in a body.
     fn contract(
@@ -34,7 +34,7 @@ pub trait Annotations {
         owner: Owner,
         contract: &Contract,
     ) -> Result<(), RuleFault>
-        ensures { Follows (meanings.contract owner contract.now scope.old) result scope.new };
+        ensures { Follows ((meanings self.now).contract owner contract.now scope.old) result scope.new };
 
     /// An invariant of a loop that stands in a file.
     fn invariant(
@@ -43,15 +43,15 @@ pub trait Annotations {
         file: u32,
         invariant: &Invariant,
     ) -> Result<(), RuleFault>
-        ensures { Follows (meanings.invariant file invariant.now scope.old) result scope.new };
+        ensures { Follows ((meanings self.now).invariant file invariant.now scope.old) result scope.new };
 
     /// A ghost command.
     fn command(&self, scope: &mut Scope, command: &GhostCommand) -> Result<(), RuleFault>
-        ensures { Follows (meanings.command command.now scope.old) result scope.new };
+        ensures { Follows ((meanings self.now).command command.now scope.old) result scope.new };
 
     /// A ghost item.
     fn item(&self, scope: &mut Scope, item: &GhostItem) -> Result<(), RuleFault>
-        ensures { Follows (meanings.item item.now scope.old) result scope.new };
+        ensures { Follows ((meanings self.now).item item.now scope.old) result scope.new };
 }
 
 /// Annotations that declare nothing, as where the grammar without them was read.
@@ -61,7 +61,7 @@ pub struct NoAnnotations;
 impl Annotations for NoAnnotations {
     ghost use Rattle.vf_walk.specs.Meanings.{no_meanings};
 
-    ghost meanings = { no_meanings };
+    ghost meanings = { λ a. no_meanings };
 
     #[tactic(auto, using(crate::proofs::Steps::stays))]
     fn contract(

@@ -165,7 +165,7 @@ pub fn walk_contract<A: Annotations>(
     is_type: bool,
     contract: &Option<Contract>,
 ) -> Result<(), RuleFault>
-    ensures { Follows (Optional (A.meanings.contract (owner signature.now given is_type)) contract.now scope.old) result scope.new }
+    ensures { Follows (Optional ((A.meanings annotations.now).contract (owner signature.now given is_type)) contract.now scope.old) result scope.new }
 {
     match contract {
         Some(contract) => {
@@ -202,7 +202,7 @@ fn walk_prototype_behind<A: Annotations>(
     contract: &Option<Contract>,
     head: Head,
 ) -> Result<(), RuleFault>
-    ensures { Follows (WalksPrototypeOf A.meanings signature.now contract.now scope.old head) result scope.new }
+    ensures { Follows (WalksPrototypeOf (A.meanings annotations.now) signature.now contract.now scope.old head) result scope.new }
 {
     let number = function_number(scope, head.earlier);
     walk_signature(alloc, scope, signature, head)?;
@@ -219,7 +219,7 @@ pub fn walk_prototype<A: Annotations>(
     signature: &Signature,
     contract: &Option<Contract>,
 ) -> Result<(), RuleFault>
-    ensures { Follows (WalksPrototype A.meanings signature.now contract.now scope.old) result scope.new }
+    ensures { Follows (WalksPrototype (A.meanings annotations.now) signature.now contract.now scope.old) result scope.new }
 {
     let head = find_head(scope, signature, false)?;
     walk_prototype_behind(alloc, scope, annotations, signature, contract, head)
@@ -264,7 +264,7 @@ fn walk_own_contract<A: Annotations>(
     number: usize,
     contract: &Option<Contract>,
 ) -> Result<(), RuleFault>
-    ensures { Follows (WalksContract A.meanings signature.now given number contract.now scope.old) result scope.new }
+    ensures { Follows (WalksContract (A.meanings annotations.now) signature.now given number contract.now scope.old) result scope.new }
 {
     match contract {
         Some(contract) => annotations.contract(scope, owner(signature, given, false), contract),
@@ -281,7 +281,7 @@ fn walk_body<A: Annotations>(
     given: CType,
     body: &Body,
 ) -> Result<(), RuleFault>
-    ensures { Follows (WalksBody A.meanings name.now given body.now scope.old) result scope.new }
+    ensures { Follows (WalksBody (A.meanings annotations.now) name.now given body.now scope.old) result scope.new }
 {
     if name.place.file == scope.file {
         walk_statements(scope, annotations, given, &body.statements)
@@ -323,7 +323,7 @@ fn walk_definition_behind<A: Annotations>(
     body: &Body,
     head: Head,
 ) -> Result<(), RuleFault>
-    ensures { Follows (WalksDefinitionOf A.meanings signature.now contract.now body.now scope.old head) result scope.new }
+    ensures { Follows (WalksDefinitionOf (A.meanings annotations.now) signature.now contract.now body.now scope.old head) result scope.new }
 {
     let number = function_number(scope, head.earlier);
     walk_defined(alloc, scope, signature, head)?;
@@ -350,7 +350,7 @@ pub fn walk_definition<A: Annotations>(
     contract: &Option<Contract>,
     body: &Body,
 ) -> Result<(), RuleFault>
-    ensures { Follows (WalksDefinition A.meanings signature.now contract.now body.now scope.old) result scope.new }
+    ensures { Follows (WalksDefinition (A.meanings annotations.now) signature.now contract.now body.now scope.old) result scope.new }
 {
     let head = find_head(scope, signature, true)?;
     walk_definition_behind(alloc, scope, annotations, signature, contract, body, head)

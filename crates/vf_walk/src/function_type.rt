@@ -65,7 +65,7 @@ fn walk_giving<A: Annotations>(
     contract: &Option<Contract>,
     given: CType,
 ) -> Result<(), RuleFault>
-    ensures { Follows (WalksTypeOf A.meanings signature.now contract.now scope.old given) result scope.new }
+    ensures { Follows (WalksTypeOf (A.meanings annotations.now) signature.now contract.now scope.old given) result scope.new }
 {
     walk_declared(alloc, scope, signature, given)?;
     walk_contract(scope, annotations, signature, given, true, contract)?;
@@ -82,7 +82,7 @@ pub fn walk_function_type<A: Annotations>(
     signature: &Signature,
     contract: &Option<Contract>,
 ) -> Result<(), RuleFault>
-    ensures { Follows (WalksType A.meanings signature.now contract.now scope.old) result scope.new }
+    ensures { Follows (WalksType (A.meanings annotations.now) signature.now contract.now scope.old) result scope.new }
 {
     let given = result_type(scope, &signature.result)?;
     walk_giving(alloc, scope, annotations, signature, contract, given)

@@ -21,7 +21,7 @@ fn walk_item<A: Annotations>(
     annotations: &A,
     item: &Item,
 ) -> Result<(), RuleFault>
-    ensures { Follows (WalksItem A.meanings item.now scope.old) result scope.new }
+    ensures { Follows (WalksItem (A.meanings annotations.now) item.now scope.old) result scope.new }
 {
     match item {
         Item::Opaque(_, name) => walk_struct_name(alloc, scope, name, true),
@@ -48,7 +48,7 @@ pub fn walk_items<A: Annotations>(
     annotations: &A,
     items: &Sequence<Item>,
 ) -> Result<(), RuleFault>
-    ensures { Follows (WalksItems A.meanings items.now scope.old) result scope.new }
+    ensures { Follows (WalksItems (A.meanings annotations.now) items.now scope.old) result scope.new }
 {
     for at in 0..items.len() {
         let Some(item) = items.get(at) else {

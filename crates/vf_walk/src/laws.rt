@@ -9,7 +9,7 @@ ghost use Rattle.vf_walk.specs.Items.{WalksItems};
 use crate::annotations::Annotations;
 
 /// Where each annotation comes to one thing at most, so does the walk over items.
-pub fn walks_agree<A: Annotations>()
-    requires { AreDetermined A.meanings }
-    ensures { (items : List Item) (scope : Scope) → ComesToOne (WalksItems A.meanings items scope) }
+pub fn walks_agree<A: Annotations>(annotations: &A)
+    requires { AreDetermined (A.meanings annotations.now) }
+    ensures { (items : List Item) (scope : Scope) → ComesToOne (WalksItems (A.meanings annotations.now) items scope) }
 {}

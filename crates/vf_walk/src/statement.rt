@@ -53,7 +53,7 @@ fn walk_invariant<A: Annotations>(
     file: u32,
     invariant: &Option<Invariant>,
 ) -> Result<(), RuleFault>
-    ensures { Follows (Optional (A.meanings.invariant file) invariant.now scope.old) result scope.new }
+    ensures { Follows (Optional ((A.meanings annotations.now).invariant file) invariant.now scope.old) result scope.new }
 {
     match invariant {
         Some(invariant) => annotations.invariant(scope, file, invariant),
@@ -70,7 +70,7 @@ fn walk_while_head<A: Annotations>(
     test: &Expr,
     invariant: &Option<Invariant>,
 ) -> Result<(), RuleFault>
-    ensures { Follows (Then (Only (condition test.now scope.old)) (Optional (A.meanings.invariant file) invariant.now)) result scope.new }
+    ensures { Follows (Then (Only (condition test.now scope.old)) (Optional ((A.meanings annotations.now).invariant file) invariant.now)) result scope.new }
 {
     walk_condition(scope, test)?;
     walk_invariant(scope, annotations, file, invariant)
@@ -103,7 +103,7 @@ fn walk_for_head<A: Annotations>(
     place: Place,
     head: &ForHead<'_>,
 ) -> Result<(), RuleFault>
-    ensures { Follows (WalksForHead A.meanings place head.now.start.now head.now.test.now head.now.step.now head.now.invariant.now scope.old) result scope.new }
+    ensures { Follows (WalksForHead (A.meanings annotations.now) place head.now.start.now head.now.test.now head.now.step.now head.now.invariant.now scope.old) result scope.new }
 {
     walk_for_parts(scope, head)?;
     walk_invariant(scope, annotations, place.file, head.invariant)
@@ -128,7 +128,7 @@ fn walk_inner<A: Annotations>(
     given: CType,
     statement: &Stmt,
 ) -> Result<(), RuleFault>
-    ensures { Follows (Inner (WalksStmt A.meanings given statement.now) scope.old) result scope.new }
+    ensures { Follows (Inner (WalksStmt (A.meanings annotations.now) given statement.now) scope.old) result scope.new }
 {
     let count = scope.locals.names.len();
     walk_statement(scope, annotations, given, statement)?;
@@ -146,7 +146,7 @@ fn walk_branches<A: Annotations>(
     yes: &Stmt,
     no: &Stmt,
 ) -> Result<(), RuleFault>
-    ensures { Follows (Then (Then (Only (condition test.now scope.old)) (Inner (WalksStmt A.meanings given yes.now))) (Inner (WalksStmt A.meanings given no.now))) result scope.new }
+    ensures { Follows (Then (Then (Only (condition test.now scope.old)) (Inner (WalksStmt (A.meanings annotations.now) given yes.now))) (Inner (WalksStmt (A.meanings annotations.now) given no.now))) result scope.new }
 {
     walk_condition(scope, test)?;
     walk_inner(scope, annotations, given, yes)?;
@@ -163,7 +163,7 @@ fn walk_if<A: Annotations>(
     test: &Expr,
     yes: &Stmt,
 ) -> Result<(), RuleFault>
-    ensures { Follows (Then (Only (condition test.now scope.old)) (Inner (WalksStmt A.meanings given yes.now))) result scope.new }
+    ensures { Follows (Then (Only (condition test.now scope.old)) (Inner (WalksStmt (A.meanings annotations.now) given yes.now))) result scope.new }
 {
     walk_condition(scope, test)?;
     walk_inner(scope, annotations, given, yes)
@@ -181,7 +181,7 @@ fn walk_while<A: Annotations>(
     invariant: &Option<Invariant>,
     body: &Stmt,
 ) -> Result<(), RuleFault>
-    ensures { Follows (Then (Then (Only (condition test.now scope.old)) (Optional (A.meanings.invariant file) invariant.now)) (Inner (WalksStmt A.meanings given body.now))) result scope.new }
+    ensures { Follows (Then (Then (Only (condition test.now scope.old)) (Optional ((A.meanings annotations.now).invariant file) invariant.now)) (Inner (WalksStmt (A.meanings annotations.now) given body.now))) result scope.new }
 {
     walk_while_head(scope, annotations, file, test, invariant)?;
     walk_inner(scope, annotations, given, body)
@@ -198,7 +198,7 @@ fn walk_for_body<A: Annotations>(
     start: &Option<First>,
     body: &Stmt,
 ) -> Result<(), RuleFault>
-    ensures { Follows (WalksForBody start.now count (WalksStmt A.meanings given body.now) scope.old) result scope.new }
+    ensures { Follows (WalksForBody start.now count (WalksStmt (A.meanings annotations.now) given body.now) scope.old) result scope.new }
 {
     walk_inner(scope, annotations, given, body)?;
     leave_first(scope, count, start)
@@ -214,7 +214,7 @@ fn walk_for<A: Annotations>(
     head: &ForHead<'_>,
     body: &Stmt,
 ) -> Result<(), RuleFault>
-    ensures { Follows (Then (WalksForHead A.meanings place head.now.start.now head.now.test.now head.now.step.now head.now.invariant.now scope.old) (WalksForBody head.now.start.now (count scope.old) (WalksStmt A.meanings given body.now))) result scope.new }
+    ensures { Follows (Then (WalksForHead (A.meanings annotations.now) place head.now.start.now head.now.test.now head.now.step.now head.now.invariant.now scope.old) (WalksForBody head.now.start.now (count scope.old) (WalksStmt (A.meanings annotations.now) given body.now))) result scope.new }
 {
     let count = scope.locals.names.len();
     walk_for_head(scope, annotations, place, head)?;
@@ -230,7 +230,7 @@ fn walk_statement<A: Annotations>(
     given: CType,
     statement: &Stmt,
 ) -> Result<(), RuleFault>
-    ensures { Follows (WalksStmt A.meanings given statement.now scope.old) result scope.new }
+    ensures { Follows (WalksStmt (A.meanings annotations.now) given statement.now scope.old) result scope.new }
 {
     match &statement.node {
         StmtNode::Declaration(written, name, value, _) => walk_declaration(
@@ -268,7 +268,7 @@ fn walk_block<A: Annotations>(
     given: CType,
     statements: &StmtList,
 ) -> Result<(), RuleFault>
-    ensures { Follows (Inner (WalksStmts A.meanings given (stmt_list statements.now)) scope.old) result scope.new }
+    ensures { Follows (Inner (WalksStmts (A.meanings annotations.now) given (stmt_list statements.now)) scope.old) result scope.new }
 {
     let count = scope.locals.names.len();
     walk_statements(scope, annotations, given, statements)?;
@@ -285,7 +285,7 @@ pub fn walk_statements<A: Annotations>(
     given: CType,
     statements: &StmtList,
 ) -> Result<(), RuleFault>
-    ensures { Follows (WalksStmts A.meanings given (stmt_list statements.now) scope.old) result scope.new }
+    ensures { Follows (WalksStmts (A.meanings annotations.now) given (stmt_list statements.now) scope.old) result scope.new }
 {
     for at in 0..statements.len() {
         let Some(statement) = statements.get(at) else {

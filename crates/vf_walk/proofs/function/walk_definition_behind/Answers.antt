@@ -13,16 +13,16 @@ returns-in_err-walk_defined g c =
 pub returns-in_err-walk_own_contract : goal.returns-in_err-walk_own_contract
 returns-in_err-walk_own_contract g c =
     let is : c.from_residual-in_err-walk_own_contract.result ≡ Err c.in_err-walk_own_contract.field-0.0 = search rules in
-    let own = subst (λ (k : ℕ). Follows {A = Scope} (WalksContract g.A.Annotations.meanings c.args.signature.now c.args.head.given k c.args.contract.now c.walk_defined.new.scope) (Err c.in_err-walk_own_contract.field-0.0) c.walk_own_contract.new.scope) c.function_number-number.ensures c.in_err-walk_own_contract.ensures in
+    let own = subst (λ (k : ℕ). Follows {A = Scope} (WalksContract (g.A.Annotations.meanings c.args.annotations.now) c.args.signature.now c.args.head.given k c.args.contract.now c.walk_defined.new.scope) (Err c.in_err-walk_own_contract.field-0.0) c.walk_own_contract.new.scope) c.function_number-number.ensures c.in_err-walk_own_contract.ensures in
     end_here {a = c.walk_own_contract.new.scope} (end_here (next_of c.in_ok-walk_defined.ensures own) refl) is
 
 pub returns-in_err-walk_body : goal.returns-in_err-walk_body
 returns-in_err-walk_body g c =
     let is : c.from_residual-in_err-walk_body.result ≡ Err c.in_err-walk_body.field-0.0 = search rules in
-    let own = subst (λ (k : ℕ). Follows {A = Scope} (WalksContract g.A.Annotations.meanings c.args.signature.now c.args.head.given k c.args.contract.now c.walk_defined.new.scope) (Ok tt) c.walk_own_contract.new.scope) c.function_number-number.ensures c.in_ok-walk_own_contract.ensures in
+    let own = subst (λ (k : ℕ). Follows {A = Scope} (WalksContract (g.A.Annotations.meanings c.args.annotations.now) c.args.signature.now c.args.head.given k c.args.contract.now c.walk_defined.new.scope) (Ok tt) c.walk_own_contract.new.scope) c.function_number-number.ensures c.in_ok-walk_own_contract.ensures in
     end_here (next (next_of c.in_ok-walk_defined.ensures own) c.in_err-walk_body.ensures) is
 
 pub returns : goal.returns
 returns g c =
-    let own = subst (λ (k : ℕ). Follows {A = Scope} (WalksContract g.A.Annotations.meanings c.args.signature.now c.args.head.given k c.args.contract.now c.walk_defined.new.scope) (Ok tt) c.walk_own_contract.new.scope) c.function_number-number.ensures c.in_ok-walk_own_contract.ensures in
+    let own = subst (λ (k : ℕ). Follows {A = Scope} (WalksContract (g.A.Annotations.meanings c.args.annotations.now) c.args.signature.now c.args.head.given k c.args.contract.now c.walk_defined.new.scope) (Ok tt) c.walk_own_contract.new.scope) c.function_number-number.ensures c.in_ok-walk_own_contract.ensures in
     last (next (next_of c.in_ok-walk_defined.ensures own) c.in_ok-walk_body.ensures) (ap Ok (sym c.clear.ensures))

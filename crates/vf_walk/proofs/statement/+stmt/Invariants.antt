@@ -33,4 +33,4 @@ decreases-walk_statements g l = 4 * stmt_nodes_all (stmt_list l.statements.now) 
 
 -- whatever the statements that are left may come to, all of them may come to
 abbrev pub invariant-walk_statements-loop-at : goal.invariant-walk_statements-loop-at
-invariant-walk_statements-loop-at g l = Leads (WalksStmts g.A.Annotations.meanings l.fn.given (stmt_list (drop l.at l.fn.statements)) l.scope) (WalksStmts g.A.Annotations.meanings l.fn.given (stmt_list l.fn.statements) l.initial.scope)
+invariant-walk_statements-loop-at g l = Leads (WalksStmts (g.A.Annotations.meanings l.fn.annotations) l.fn.given (stmt_list (drop l.at l.fn.statements)) l.scope) (WalksStmts (g.A.Annotations.meanings l.fn.annotations) l.fn.given (stmt_list l.fn.statements) l.initial.scope)
