@@ -1,0 +1,5 @@
+//! Trials of whole annotations: what fixpoints, lemmas and units declare, or where they are refused.
+#![tactic(auto)]
+
+#[cfg(test)]
+mod equations;

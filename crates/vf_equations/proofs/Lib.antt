@@ -1,0 +1,3 @@
+pub mod Fronts
+pub mod Giving
+pub mod Wholes

@@ -1,0 +1,4 @@
+pub mod Switching
+pub mod Values
+pub mod Fixpoints
+pub mod Answers
