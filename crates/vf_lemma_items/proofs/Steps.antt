@@ -31,8 +31,8 @@ abbrev pub IsHead : Scope → Bool → Name → List Name → Result Head RuleFa
 IsHead s b n ns r = Answers (λ h. head s b n ns ≡ Ok h) (λ x. head s b n ns ≡ Err x) r
 
 -- its name is refused
-pub name_stops : (s : Scope) (b : Bool) (n : Name) (ns : List Name) (x : Refusal) (e : RuleFault) → earlier s b n ≡ Err x → e ≡ faults.Refused x → IsHead s b n ns (Err e)
-name_stops s b n ns x e h is = subst (λ (d : RuleFault). IsHead s b n ns (Err d)) (sym is) (ap (behind (λ o. behind (counted s n o) (names.parameters_behind s ns []))) h)
+pub name_stops : (s : Scope) (b : Bool) (n : Name) (ns : List Name) (x : Refusal) (r : Result Head RuleFault) → earlier s b n ≡ Err x → r ≡ Err (faults.Refused x) → IsHead s b n ns r
+name_stops s b n ns x r h is = subst (IsHead s b n ns) (sym is) (ap (behind (λ o. behind (counted s n o) (names.parameters_behind s ns []))) h)
 
 -- a type parameter is refused
 pub types_stop : (s : Scope) (b : Bool) (n : Name) (ns : List Name) (o : Option ℕ) (e : RuleFault) (r : Result Head RuleFault) → earlier s b n ≡ Ok o → Tells (λ x. names.parameters_behind s ns [] ≡ Err x) e → r ≡ Err e → IsHead s b n ns r

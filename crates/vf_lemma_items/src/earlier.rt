@@ -189,10 +189,7 @@ pub fn find_head(
 ) -> Result<Head, RuleFault>
     ensures { Answers (λ h. earlier.head scope.now has_body name.now types.now ≡ Ok h) (λ r. earlier.head scope.now has_body name.now types.now ≡ Err r) result }
 {
-    let earlier = match earlier(scope, has_body, name) {
-        Ok(earlier) => earlier,
-        Err(refusal) => return Err(RuleFault::Refused(refusal)),
-    };
+    let earlier = earlier(scope, has_body, name)?;
     let parameters = type_parameters(alloc, scope, types)?;
     if has_as_many(&parameters, lemma_at(scope, earlier)) {
         Ok(Head {

@@ -6,7 +6,7 @@ ghost use Rattle.vf_lemma_items.specs.Lemmas.{BodyOf, DefinitionComes, Definitio
 use crate::around::{around_body, around_contract};
 use crate::earlier::{Head, find_head};
 use crate::kept::{keep, take_kept};
-use crate::signature::{declare_signature, number};
+use crate::signature::{declare_signature, lemma_number};
 use std::alloc::Global;
 use vf_base::{Rule, RuleFault, Sequence};
 use vf_commands::body_given;
@@ -31,7 +31,7 @@ fn declare_prototype(
     ensures { Follows (PrototypeOf name.now parameters.now contract.now scope.old head.now) result scope.new }
 {
     let count = scope.locals.names.len();
-    let number = number(scope, head.earlier);
+    let number = lemma_number(scope, head.earlier);
     declare_signature(alloc, scope, name, parameters, head)?;
     let around = around_contract();
     contract_given(alloc, scope, &around, &around, contract)?;
@@ -116,7 +116,7 @@ fn declare_definition(
     ensures { Follows (DefinitionOf name.now parameters.now contract.now body.now scope.old head) result scope.new }
 {
     let count = scope.locals.names.len();
-    let number = number(scope, head.earlier);
+    let number = lemma_number(scope, head.earlier);
     declare_signature(alloc, scope, name, parameters, &head)?;
     scope.declare_ghost_body(alloc, number);
     declare_contract(alloc, scope, parameters, number, contract)?;

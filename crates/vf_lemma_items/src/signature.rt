@@ -19,7 +19,7 @@ use vf_syntax::item::GhostParameter;
 use vf_syntax::written::Name;
 
 /// The number of a lemma that is declared already or not.
-pub fn number(scope: &Scope, earlier: Option<usize>) -> usize
+pub fn lemma_number(scope: &Scope, earlier: Option<usize>) -> usize
     ensures { result ≡ lemmas.number scope.now earlier }
 {
     match earlier {
