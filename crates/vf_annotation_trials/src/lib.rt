@@ -3,3 +3,9 @@
 
 #[cfg(test)]
 mod equations;
+#[cfg(test)]
+mod lemmas;
+#[cfg(test)]
+mod names;
+#[cfg(test)]
+mod units;

@@ -18,8 +18,6 @@ mod fixpoints;
 #[cfg(test)]
 mod heads;
 #[cfg(test)]
-mod lemmas;
-#[cfg(test)]
 mod predicates;
 #[cfg(test)]
 mod sorts;
