@@ -4,7 +4,7 @@ use std::alloc::Global;
 use std::test::Fail;
 use vf_base::{NumberList, Place, Sequence};
 use vf_datatypes::Stated;
-use vf_gathering::{datatypes_of, predicates_of};
+use vf_gathering::{ahead_of, datatypes_of, predicates_of};
 use vf_lexer::lex;
 use vf_parse::parse::parse;
 use vf_parse_c::fault::ParseFault;
@@ -64,13 +64,15 @@ fn datatypes(rt: HostRuntime) -> Result<(), Fail> {
 #[test]
 fn predicates(rt: HostRuntime) -> Result<(), Fail> {
     let found = items(rt.alloc(), TEXT, 3).and_then(|items| {
-        let stated = predicates_of(rt.alloc(), &items)?;
-        Ok((
-            stands(&stated, "p"),
-            stands(&stated, "q"),
-            stands(&stated, "f"),
-        ))
+        let ahead = ahead_of(rt.alloc(), &items)?;
+        let found = predicates_of(rt.alloc(), &ahead, &items)?;
+        let names = (
+            stands(&found.stated, "p"),
+            stands(&found.stated, "q"),
+            stands(&found.stated, "f"),
+        );
+        Ok((names, found.sorts.len()))
     });
-    assert!(rt; found == Ok((3, 1, 0)));
+    assert!(rt; found == Ok(((3, 1, 0), 2)));
     Ok(())
 }

@@ -2,15 +2,12 @@
 
 use std::alloc::Global;
 use std::test::Fail;
-use vf_annotations::Ghosts;
-use vf_base::{NumberList, Place, Rule, RuleFault};
-use vf_declared::scope::Scope;
-use vf_gathering::datatypes_of;
+use vf_base::{NumberList, Place, Rule, RuleFault, Sequence};
 use vf_lexer::lex;
 use vf_parse::parse::parse;
 use vf_parse_c::fault::ParseFault;
+use vf_resolve::{Files, resolve};
 use vf_syntax::item::Unit;
-use vf_walk::walk_items;
 
 /// The place behind the texts here.
 const END: Place = Place {
@@ -19,10 +16,10 @@ const END: Place = Place {
     column: 1,
 };
 
-/// What comes of a unit: nothing, or the rule, the line and the column of its refusal.
+/// What comes of a unit: how many things of annotations it declares, or the rule, the line and the column of its refusal.
 #[derive(Clone, Copy, Debug, PartialEq, Eq)]
 enum Answer {
-    Accepted,
+    Accepted(usize),
     Refused(Rule, u32, u32),
 }
 
@@ -37,20 +34,27 @@ fn parsed(alloc: Global, text: &str) -> Result<Unit, ParseFault> {
     parse(alloc, tokens.as_slice(), NumberList::new(alloc), END)
 }
 
-/// Walks over the items of a unit and its annotations.
-fn walked(alloc: Global, unit: &Unit) -> Result<(), RuleFault> {
-    let ghosts = Ghosts {
-        alloc,
-        stated: datatypes_of(alloc, &unit.items)?,
-    };
-    let mut scope = Scope::new(alloc, 0);
-    walk_items(alloc, &mut scope, &ghosts, &unit.items)
+/// The files of a unit of one file.
+fn one_file(alloc: Global) -> Files {
+    Files {
+        own: 0,
+        headers: Sequence::new(alloc),
+        preludes: NumberList::new(alloc),
+        has_stdlib: false,
+        has_arrays: false,
+    }
 }
 
-/// What comes of a walk.
-fn outcome(walked: Result<(), RuleFault>) -> Result<Answer, ParseFault> {
-    match walked {
-        Ok(()) => Ok(Answer::Accepted),
+/// How many things of annotations a unit declares.
+fn resolved(alloc: Global, unit: &Unit) -> Result<usize, RuleFault> {
+    let scope = resolve(alloc, one_file(alloc), &unit.items)?;
+    Ok(scope.ghosts.len())
+}
+
+/// What comes of it.
+fn outcome(resolved: Result<usize, RuleFault>) -> Result<Answer, ParseFault> {
+    match resolved {
+        Ok(count) => Ok(Answer::Accepted(count)),
         Err(RuleFault::Refused(refusal)) => Ok(Answer::Refused(
             refusal.rule,
             refusal.place.line,
@@ -63,7 +67,7 @@ fn outcome(walked: Result<(), RuleFault>) -> Result<Answer, ParseFault> {
 /// What comes of a text.
 fn found(alloc: Global, text: &str) -> Result<Answer, ParseFault> {
     let unit = parsed(alloc, text)?;
-    outcome(walked(alloc, &unit))
+    outcome(resolved(alloc, &unit))
 }
 
 /// A unit with each form of annotation but families, predicate constructors and claims.
@@ -102,16 +106,27 @@ int main()
 { return 0; }
 ";
 
-/// Annotations that are sound in their names and sorts.
+/// Annotations that are right in their names and sorts.
 #[test]
 fn accepted(rt: HostRuntime) -> Result<(), Fail> {
-    for text in [
-        WHOLE,
-        "/*@ predicate_family part(int i)(int x); @*/ void g()\n//@ requires true;\n//@ ensures true;\n{ }\n/*@ predicate_family_instance part(g)(int x) = x == 1; @*/",
-        "/*@ predicate_ctor held(int x)(int y) = x == y; @*/",
+    for (text, count) in [
+        (WHOLE, 6),
+        (
+            "/*@ predicate_family part(int i)(int x); @*/ void g()\n//@ requires true;\n//@ ensures true;\n{ }\n/*@ predicate_family_instance part(g)(int x) = x == 1; @*/",
+            1,
+        ),
+        ("/*@ predicate_ctor held(int x)(int y) = x == y; @*/", 1),
+        (
+            "/*@ predicate p(int x) = q(x); predicate q(int y) = true; @*/",
+            2,
+        ),
+        (
+            "struct s { int f; }; /*@ predicate p(struct s *x) = q(?y) &*& y->f |-> _; predicate q(struct s *y) = true; @*/",
+            2,
+        ),
     ] {
         assert!(rt;
-            found(rt.alloc(), text) == Ok(Answer::Accepted),
+            found(rt.alloc(), text) == Ok(Answer::Accepted(count)),
             "at {text}"
         );
     }
@@ -169,6 +184,18 @@ fn refused(rt: HostRuntime) -> Result<(), Fail> {
             Rule::Name,
             1,
             62,
+        ),
+        (
+            "/*@ predicate p(int x) = q(true); predicate q(int y) = true; @*/",
+            Rule::Typing,
+            1,
+            28,
+        ),
+        (
+            "/*@ inductive l<t> = nil | cons(t, l<t>); predicate p(l<int> xs) = q(xs); predicate q(l<bool> ys) = true; @*/",
+            Rule::Typing,
+            1,
+            70,
         ),
     ] {
         assert!(rt;

@@ -15,11 +15,11 @@ use Rattle.vf_gathering.specs.Standing.{Tells, any_files, files_of, no_names, or
 
 -- ---- lists
 
-nothing_behind : {A : Type 0} (xs : List A) → xs ++ [] ≡ xs
+pub nothing_behind : {A : Type 0} (xs : List A) → xs ++ [] ≡ xs
 nothing_behind [] = refl
 nothing_behind (x ∷ xs) = ap (λ ys. x ∷ ys) (nothing_behind xs)
 
-one_by_one : {A : Type 0} (xs : List A) (y : A) (zs : List A) → (xs ++ y ∷ []) ++ zs ≡ xs ++ y ∷ zs
+pub one_by_one : {A : Type 0} (xs : List A) (y : A) (zs : List A) → (xs ++ y ∷ []) ++ zs ≡ xs ++ y ∷ zs
 one_by_one [] y zs = refl
 one_by_one (x ∷ xs) y zs = ap (λ ys. x ∷ ys) (one_by_one xs y zs)
 

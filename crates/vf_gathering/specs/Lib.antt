@@ -1,2 +1,5 @@
 pub mod Standing
 pub mod Named
+pub mod Told
+pub mod Ahead
+pub mod Foretold

@@ -1,15 +1,14 @@
-//! Which datatypes and predicates stand in items.
+//! Which datatypes stand in items.
 
 ghost use Rattle.std.specs.Prelude.{◌≡◌, IfOk};
 ghost use Rattle.std.specs.Option.{option_copied};
 ghost use Rattle.vf_gathering.specs.Named as named;
-ghost use Rattle.vf_gathering.specs.Standing.{Tells, no_names, with_names};
+ghost use Rattle.vf_gathering.specs.Standing.{Tells};
 
-use crate::standing::with_optional;
+use crate::standing::{no_names, with_optional};
 use std::alloc::Global;
 use vf_base::{Memory, Sequence};
 use vf_datatypes::Stated;
-use vf_names::Names;
 use vf_syntax::item::{GhostForm, Item};
 use vf_syntax::written::Name;
 
@@ -26,30 +25,6 @@ fn datatype_of(item: &Item) -> Option<&Name>
     }
 }
 
-/// The name of the predicate that an item declares.
-fn predicate_of(item: &Item) -> Option<&Name>
-    ensures { option_copied result ≡ named.predicate_of item.now }
-{
-    match item {
-        Item::Ghost(annotation) => match &annotation.form {
-            GhostForm::Predicate(name, _) => Some(name),
-            GhostForm::PredicateBody(name, _, _) => Some(name),
-            _ => None,
-        },
-        _ => None,
-    }
-}
-
-/// No names.
-fn no_names(alloc: Global) -> Stated
-    ensures { result ≡ no_names }
-{
-    Stated {
-        names: Names::new(alloc),
-        files: Sequence::new(alloc),
-    }
-}
-
 /// The names of the datatypes that items declare, each with the files in which one of that name stands.
 #[tactic(auto, using(crate::proofs::Tables::all_told))]
 pub fn datatypes_of(alloc: Global, items: &Sequence<Item>) -> Result<Stated, Memory>
@@ -58,19 +33,6 @@ pub fn datatypes_of(alloc: Global, items: &Sequence<Item>) -> Result<Stated, Mem
     let mut stated = no_names(alloc);
     for item in items.as_slice() {
         with_optional(alloc, &mut stated, datatype_of(item))?;
-    }
-    Ok(stated)
-}
-
-/// The names of the predicates that items declare, with a body or without one, each with the files in which one of that
-/// name stands.
-#[tactic(auto, using(crate::proofs::Tables::all_told))]
-pub fn predicates_of(alloc: Global, items: &Sequence<Item>) -> Result<Stated, Memory>
-    ensures { IfOk result (λ d. Tells (named.predicates_in items.now) d) }
-{
-    let mut stated = no_names(alloc);
-    for item in items.as_slice() {
-        with_optional(alloc, &mut stated, predicate_of(item))?;
     }
     Ok(stated)
 }

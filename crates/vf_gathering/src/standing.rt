@@ -6,9 +6,20 @@ ghost use Rattle.vf_gathering.specs.Named.{with_optional};
 ghost use Rattle.vf_gathering.specs.Standing as standing;
 
 use std::alloc::Global;
-use vf_base::{Memory, NumberList};
+use vf_base::{Memory, NumberList, Sequence};
 use vf_datatypes::Stated;
+use vf_names::Names;
 use vf_syntax::written::Name;
+
+/// No names.
+pub fn no_names(alloc: Global) -> Stated
+    ensures { result ≡ standing.no_names }
+{
+    Stated {
+        names: Names::new(alloc),
+        files: Sequence::new(alloc),
+    }
+}
 
 /// Files that may be there, with one more behind them.
 fn one_more(alloc: Global, files: Option<&NumberList>, file: u32) -> Result<NumberList, Memory>
@@ -44,7 +55,7 @@ fn with_new(alloc: Global, stated: &mut Stated, name: &Name) -> Result<(), Memor
 }
 
 /// Keeps that a name stands in one more file.
-fn with_name(alloc: Global, stated: &mut Stated, name: &Name) -> Result<(), Memory>
+pub fn with_name(alloc: Global, stated: &mut Stated, name: &Name) -> Result<(), Memory>
     ensures { OnOk result (stated.new ≡ standing.with_name stated.old name.now) }
 {
     match stated.names.number(name.text.as_bytes()) {
