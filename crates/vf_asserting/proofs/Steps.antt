@@ -6,7 +6,8 @@ use Rattle.vf_base.specs.declared.refusal.RuleFault.TheVariants as faults
 use Rattle.vf_base.specs.declared.rule.Rule.TheVariants as rules
 use Rattle.vf_sorts.specs.declared.sort.Head.TheVariants as heads
 use Rattle.vf_sorts.specs.Sorts.{Sort, row}
-use Rattle.vf_sorts.specs.Unknowns.{EachUnknownOf, Equates, IsBelow, Known, instance, leaf}
+use Rattle.vf_sorts.specs.Unknowns.{EachUnknownOf, IsBelow, Known, instance, leaf}
+use Rattle.vf_sorts.specs.Unifying.{Equates}
 use Rattle.vf_declared.specs.declared.scope.Scope.{Scope}
 use Rattle.vf_syntax.specs.declared.written.Name.{Name}
 use Rattle.vf_syntax.specs.GhostExprTree.{GhostExprTree}

@@ -3,7 +3,8 @@ use Rattle.std.specs.Prelude.{◌≡◌, ℕ, Bool, true, false, List, [], lengt
 use Rattle.vf_base.specs.declared.refusal.Refusal.{Refusal}
 use Rattle.vf_base.specs.declared.rule.Rule.TheVariants as rules
 use Rattle.vf_sorts.specs.Sorts.{Sort}
-use Rattle.vf_sorts.specs.Unknowns.{AreApart, Equates, Known}
+use Rattle.vf_sorts.specs.Unknowns.{Known}
+use Rattle.vf_sorts.specs.Unifying.{AreApart, Equates}
 use Rattle.vf_declared.specs.declared.scope.Scope.{Scope}
 use Rattle.vf_declared.specs.Scopes.{datatype_of}
 use Rattle.vf_syntax.specs.declared.pattern.CasePattern.{CasePattern}

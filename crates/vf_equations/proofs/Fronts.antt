@@ -4,7 +4,8 @@ use Rattle.vf_base.specs.declared.refusal.RuleFault.{RuleFault}
 use Rattle.vf_base.specs.declared.refusal.RuleFault.TheVariants as faults
 use Rattle.vf_base.specs.declared.rule.Rule.TheVariants as rules
 use Rattle.vf_sorts.specs.Sorts.{Sort}
-use Rattle.vf_sorts.specs.Unknowns.{Equates, IsBelow, Known, instance}
+use Rattle.vf_sorts.specs.Unknowns.{IsBelow, Known, instance}
+use Rattle.vf_sorts.specs.Unifying.{Equates}
 use Rattle.vf_declared.specs.declared.scope.Scope.{Scope}
 use Rattle.vf_syntax.specs.declared.item.FixpointCase.{FixpointCase}
 use Rattle.vf_syntax.specs.declared.written.Name.{Name}

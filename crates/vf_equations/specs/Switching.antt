@@ -4,7 +4,8 @@ use Rattle.vf_base.specs.declared.place.Place.{Place}
 use Rattle.vf_base.specs.declared.refusal.Refusal.{Refusal}
 use Rattle.vf_base.specs.declared.rule.Rule.TheVariants as rules
 use Rattle.vf_sorts.specs.Sorts.{Sort}
-use Rattle.vf_sorts.specs.Unknowns.{AreApart, Equates, IsBelow, Known}
+use Rattle.vf_sorts.specs.Unknowns.{IsBelow, Known}
+use Rattle.vf_sorts.specs.Unifying.{AreApart, Equates}
 use Rattle.vf_declared.specs.declared.declaration.Meaning.{Meaning}
 use Rattle.vf_declared.specs.declared.locals.Local.{Local}
 use Rattle.vf_declared.specs.declared.scope.Scope.{Scope}

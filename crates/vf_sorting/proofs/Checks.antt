@@ -7,7 +7,8 @@ use Rattle.vf_base.specs.declared.refusal.Refusal.{Refusal}
 use Rattle.vf_base.specs.declared.refusal.RuleFault.{RuleFault}
 use Rattle.vf_base.specs.declared.rule.Rule.TheVariants as rules
 use Rattle.vf_sorts.specs.Sorts.{Sort}
-use Rattle.vf_sorts.specs.Unknowns.{Equates, IsBelow, Known, instance}
+use Rattle.vf_sorts.specs.Unknowns.{IsBelow, Known, instance}
+use Rattle.vf_sorts.specs.Unifying.{Equates}
 use Rattle.vf_declared.specs.declared.scope.Scope.{Scope}
 use Rattle.vf_syntax.specs.declared.operator.BinaryOperator.{BinaryOperator}
 use Rattle.vf_syntax.specs.GhostExprTree.{GhostExprTree, GhostExprTrees, ghost_expr_list, more_ghost_expr, no_ghost_expr, GhostLinkTree, GhostLinkTrees, ghost_link_list, more_ghost_link, no_ghost_link}

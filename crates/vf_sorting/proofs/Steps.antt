@@ -7,7 +7,8 @@ use Rattle.vf_base.specs.declared.refusal.RuleFault.{RuleFault}
 use Rattle.vf_base.specs.declared.refusal.RuleFault.TheVariants as faults
 use Rattle.vf_base.specs.declared.rule.Rule.TheVariants as rules
 use Rattle.vf_sorts.specs.Sorts.{Sort}
-use Rattle.vf_sorts.specs.Unknowns.{AreApart, AreBelow, Equates, IsBelow, Known, instance}
+use Rattle.vf_sorts.specs.Unknowns.{AreBelow, IsBelow, Known, instance}
+use Rattle.vf_sorts.specs.Unifying.{AreApart, Equates}
 use Rattle.vf_declared.specs.declared.scope.Scope.{Scope}
 use Rattle.vf_syntax.specs.declared.operator.BinaryOperator.{BinaryOperator}
 use Rattle.vf_syntax.specs.declared.operator.BinaryOperator.TheVariants as operators

@@ -6,7 +6,8 @@ use Rattle.vf_base.specs.declared.refusal.RuleFault.{RuleFault}
 use Rattle.vf_base.specs.declared.refusal.RuleFault.TheVariants as faults
 use Rattle.vf_base.specs.declared.rule.Rule.TheVariants as rules
 use Rattle.vf_sorts.specs.Sorts.{Sort}
-use Rattle.vf_sorts.specs.Unknowns.{AreApart, Equates, IsBelow, Known}
+use Rattle.vf_sorts.specs.Unknowns.{IsBelow, Known}
+use Rattle.vf_sorts.specs.Unifying.{AreApart, Equates}
 use Rattle.vf_declared.specs.declared.scope.Scope.{Scope}
 use Rattle.vf_syntax.specs.GhostExprTree.{GhostExprTree, GhostExprTrees, GhostLinkTree, GhostLinkTrees}
 use Rattle.vf_sorting.specs.declared.context.Context.{Context}

@@ -3,7 +3,8 @@ use Rattle.std.specs.Prelude.{◌≡◌, ℕ, Bool, true, false, ◌&&◌, ◌||
 use Rattle.vf_base.specs.declared.int_type.IntType.{IntType}
 use Rattle.vf_base.specs.declared.place.Place.{Place}
 use Rattle.vf_sorts.specs.Sorts.{Sort}
-use Rattle.vf_sorts.specs.Unknowns.{Equates, IsBelow, Known, instance}
+use Rattle.vf_sorts.specs.Unknowns.{IsBelow, Known, instance}
+use Rattle.vf_sorts.specs.Unifying.{Equates}
 use Rattle.vf_declared.specs.declared.scope.Scope.{Scope}
 use Rattle.vf_syntax.specs.declared.operator.BinaryOperator.{BinaryOperator}
 use Rattle.vf_syntax.specs.declared.operator.Level.{Level}

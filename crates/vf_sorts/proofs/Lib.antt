@@ -1,4 +1,5 @@
 pub mod Rows
+pub mod Alike
 pub mod Filled
 pub mod Agreeing
 pub mod Learning
@@ -6,4 +7,5 @@ pub mod Occurring
 pub mod Weights
 pub mod Pairing
 pub mod Making
+pub mod Going
 pub mod Settling

@@ -1,6 +1,8 @@
 -- Pairs of sorts that are made equal.
-use Rattle.std.proofs.Common.{◌≡◌, ◌≢◌, ◌↔◌, ℕ, suc, ◌+◌, ◌<◌, ◌≤◌, List, [], ◌∷◌, ◌++◌, length, Bool, true, false, MatchBool, Some, None, refl, sym, ◌∙◌, ap, ap₂, subst, arith}
+use Rattle.std.proofs.Common.{◌≡◌, ◌≢◌, ◌↔◌, ℕ, suc, ◌+◌, ◌<◌, ◌≤◌, List, [], ◌∷◌, ◌++◌, length, reverse, Bool, true, false, MatchBool, Some, None, refl, sym, ◌∙◌, ap, ap₂, subst, arith}
 use Rattle.std.specs.Prelude.{slice_get}
+use Rattle.std.proofs.lemmas.List.{reverse-reverse}
+use mathlib.Core.List.{reverse-cons}
 use Rattle.std.proofs.lemmas.List.Sums.{sum_by-append, sum_by-cons}
 use Rattle.vf_sorts.specs.declared.sort.Head.{Head}
 use Rattle.vf_sorts.specs.declared.sort.Head.TheVariants as heads
@@ -98,16 +100,24 @@ all_append : (o : Sort → Sort) (f : Filling) (ps qs : List Pair) → AllEqual 
 all_append o f [] qs a b = b
 all_append o f (p ∷ ps) qs a b = (a.0, all_append o f ps qs a.1 b)
 
+all_reversed : (o : Sort → Sort) (f : Filling) (ps : List Pair) → AllEqual o f ps → AllEqual o f (reverse ps)
+all_reversed o f [] a = tt
+all_reversed o f (p ∷ ps) a = rw (reverse-cons p ps) (all_append o f (reverse ps) (p ∷ []) (all_reversed o f ps a.1) (a.0, tt))
+
+all_unreversed : (o : Sort → Sort) (f : Filling) (ps : List Pair) → AllEqual o f (reverse ps) → AllEqual o f ps
+all_unreversed o f ps a = subst (AllEqual o f) (reverse-reverse ps) (all_reversed o f (reverse ps) a)
+
 all_split : (o : Sort → Sort) (f : Filling) (ps qs : List Pair) → AllEqual o f (ps ++ qs) → AllEqual o f ps × AllEqual o f qs
 all_split o f [] qs a = (tt, a)
 all_split o f (p ∷ ps) qs a = let r = all_split o f ps qs a.1 in ((a.0, r.0), r.1)
 
 pub made_parts : (known : Known) (h k : Head) (ls rs : List Sort) (pairs : List Pair) → untold_head h ≡ untold_head k → ((u : ℕ) → h ≢ heads.Unknown u) → ((u : ℕ) → k ≢ heads.Unknown u) → length ls ≡ length rs
-    → (f : Filling) → (Agrees f known × AllEqual untold f (pairs ++ paired ls rs)) ↔ (Agrees f known × AreAlike (filled f (sort h (row ls))) (filled f (sort k (row rs))) × AllEqual untold f pairs)
+    → (f : Filling) → (Agrees f known × AllEqual untold f (pairs ++ reverse (paired ls rs))) ↔ (Agrees f known × AreAlike (filled f (sort h (row ls))) (filled f (sort k (row rs))) × AllEqual untold f pairs)
 made_parts known h k ls rs pairs same m n long f = (
-  λ a. let both = all_split untold f pairs (paired ls rs) a.1 in
+  λ a. let split = all_split untold f pairs (reverse (paired ls rs)) a.1 in
+      let both : AllEqual untold f pairs × AllEqual untold f (paired ls rs) = (split.0, all_unreversed untold f (paired ls rs) split.1) in
       (a.0, ap untold (head_filled f h (filled_all f (row ls)) m) ∙ ap₂ sort same (alike_paired f ls rs long both.1) ∙ sym (ap untold (head_filled f k (filled_all f (row rs)) n)), both.0),
-  λ a. (a.0, all_append untold f pairs (paired ls rs) a.2 (paired_alike f ls rs (rows_alike f h k ls rs m n a.1).1)),
+  λ a. (a.0, all_append untold f pairs (reverse (paired ls rs)) a.2 (all_reversed untold f (paired ls rs) (paired_alike f ls rs (rows_alike f h k ls rs m n a.1).1))),
 )
 
 -- ---- parts are below what their wholes are below
@@ -135,11 +145,15 @@ pub below_split : (n : ℕ) (ps qs : List Pair) → AreBelow n (ps ++ qs) → Ar
 below_split n [] qs a = (tt, a)
 below_split n (p ∷ ps) qs a = let r = below_split n ps qs a.1 in ((a.0, r.0), r.1)
 
+below_reversed : (n : ℕ) (ps : List Pair) → AreBelow n ps → AreBelow n (reverse ps)
+below_reversed n [] a = tt
+below_reversed n (p ∷ ps) a = rw (reverse-cons p ps) (below_append n (reverse ps) (p ∷ []) (below_reversed n ps a.1) (a.0, tt))
+
 pub parts_below : (known : Known) (h k : Head) (ls rs : List Sort) (pairs : List Pair) → ((u : ℕ) → h ≢ heads.Unknown u) → ((u : ℕ) → k ≢ heads.Unknown u)
-    → IsOpen known (sort h (row ls)) → IsOpen known (sort k (row rs)) → AreBelow (length known) pairs → AreBelow (length known) (pairs ++ paired ls rs)
+    → IsOpen known (sort h (row ls)) → IsOpen known (sort k (row rs)) → AreBelow (length known) pairs → AreBelow (length known) (pairs ++ reverse (paired ls rs))
 parts_below known h k ls rs pairs m n a b below =
-    below_append (length known) pairs (paired ls rs) below
-    (paired_below known ls rs (open_parts (λ u. slice_get known u ≡ Some None) h (row ls) m a) (open_parts (λ u. slice_get known u ≡ Some None) k (row rs) n b))
+    below_append (length known) pairs (reverse (paired ls rs)) below
+    (below_reversed (length known) (paired ls rs) (paired_below known ls rs (open_parts (λ u. slice_get known u ≡ Some None) h (row ls) m a) (open_parts (λ u. slice_get known u ≡ Some None) k (row rs) n b)))
 
 -- ---- parts are smaller than their wholes
 mutual
@@ -168,13 +182,23 @@ paired_load known (l ∷ ls) (r ∷ rs) a b =
     let c = sum_by-cons (pair_size known) (record { left = l; right = r }) (paired ls rs) in
     omega (arith, p, q, t, c)
 
+load_reversed : (known : Known) (ps : List Pair) → load known (reverse ps) ≡ load known ps
+load_reversed known [] = refl
+load_reversed known (p ∷ ps) = rw (reverse-cons p ps)
+    (let a = load_reversed known ps in
+    let b = sum_by-append (pair_size known) (reverse ps) (p ∷ []) in
+    let c = sum_by-cons (pair_size known) p ps in
+    let d = sum_by-cons (pair_size known) p [] in
+    omega (arith, a, b, c, d))
+
 pub parts_less : (known : Known) (h k : Head) (ls rs : List Sort) (pairs : List Pair) → ((u : ℕ) → h ≢ heads.Unknown u) → ((u : ℕ) → k ≢ heads.Unknown u)
     → IsOpen known (sort h (row ls)) → IsOpen known (sort k (row rs))
-    → weight known (pairs ++ paired ls rs) < left_to_do (open_count known) (size_of (sort h (row ls)) + size_of (sort k (row rs)) + load known pairs)
+    → weight known (pairs ++ reverse (paired ls rs)) < left_to_do (open_count known) (size_of (sort h (row ls)) + size_of (sort k (row rs)) + load known pairs)
 parts_less known h k ls rs pairs m n a b =
     let t = paired_load known ls rs (open_parts (λ u. slice_get known u ≡ Some None) h (row ls) m a) (open_parts (λ u. slice_get known u ≡ Some None) k (row rs) n b) in
-    let c = sum_by-append (pair_size known) pairs (paired ls rs) in
-    less (open_count known) (load known (pairs ++ paired ls rs)) (size_of (sort h (row ls)) + size_of (sort k (row rs)) + load known pairs) (omega (arith, t, c))
+    let c = sum_by-append (pair_size known) pairs (reverse (paired ls rs)) in
+    let d = load_reversed known (paired ls rs) in
+    less (open_count known) (load known (pairs ++ reverse (paired ls rs))) (size_of (sort h (row ls)) + size_of (sort k (row rs)) + load known pairs) (omega (arith, t, c, d))
 
 -- ---- a pair that is taken
 pub made_pair : (yes : Bool) (known then_known : Known) (p : Pair) (l r : Sort) (pairs then_pairs : List Pair) → l ≡ filled (by_known known) p.left → r ≡ filled (by_known known) p.right
@@ -230,13 +254,13 @@ heads_apart l r h k ls rs vl vr m n apart f =
     (λ e. apart (rows_alike f h k ls rs (λ u q. m u (ap head_of (sym vl) ∙ q)) (λ u q. n u (ap head_of (sym vr) ∙ q)) e).0))
 
 pub below_then : (known : Known) (l r : Sort) (h k : Head) (ls rs : List Sort) (pairs then_pairs : List Pair) → sort h (row ls) ≡ l → sort k (row rs) ≡ r → ((u : ℕ) → head_of l ≢ heads.Unknown u) → ((u : ℕ) → head_of r ≢ heads.Unknown u)
-    → IsOpen known l → IsOpen known r → AreBelow (length known) pairs → then_pairs ≡ pairs ++ paired ls rs → AreBelow (length known) then_pairs
+    → IsOpen known l → IsOpen known r → AreBelow (length known) pairs → then_pairs ≡ pairs ++ reverse (paired ls rs) → AreBelow (length known) then_pairs
 below_then known l r h k ls rs pairs then_pairs vl vr m n a b below e =
     subst (AreBelow (length known)) (sym e)
     (parts_below known h k ls rs pairs (λ u q. m u (ap head_of (sym vl) ∙ q)) (λ u q. n u (ap head_of (sym vr) ∙ q)) (subst (IsOpen known) (sym vl) a) (subst (IsOpen known) (sym vr) b) below)
 
 pub equal_then : (known : Known) (l r : Sort) (h k : Head) (ls rs : List Sort) (pairs then_pairs : List Pair) → sort h (row ls) ≡ l → sort k (row rs) ≡ r → ((u : ℕ) → head_of l ≢ heads.Unknown u) → ((u : ℕ) → head_of r ≢ heads.Unknown u)
-    → untold_head h ≡ untold_head k → length ls ≡ length rs → then_pairs ≡ pairs ++ paired ls rs
+    → untold_head h ≡ untold_head k → length ls ≡ length rs → then_pairs ≡ pairs ++ reverse (paired ls rs)
     → (f : Filling) → (Agrees f known × AllEqual untold f then_pairs) ↔ (Agrees f known × AreAlike (filled f l) (filled f r) × AllEqual untold f pairs)
 equal_then known l r h k ls rs pairs then_pairs vl vr m n same long e f =
     subst (λ (x : Sort). (Agrees f known × AllEqual untold f then_pairs) ↔ (Agrees f known × AreAlike (filled f x) (filled f r) × AllEqual untold f pairs)) vl
@@ -245,14 +269,14 @@ equal_then known l r h k ls rs pairs then_pairs vl vr m n same long e f =
     (made_parts known h k ls rs pairs same (λ u q. m u (ap head_of (sym vl) ∙ q)) (λ u q. n u (ap head_of (sym vr) ∙ q)) long f)))
 
 pub told_then : (known : Known) (l r : Sort) (h k : Head) (ls rs : List Sort) (pairs then_pairs : List Pair) → sort h (row ls) ≡ l → sort k (row rs) ≡ r → ((u : ℕ) → head_of l ≢ heads.Unknown u) → ((u : ℕ) → head_of r ≢ heads.Unknown u)
-    → then_pairs ≡ pairs ++ paired ls rs
+    → then_pairs ≡ pairs ++ reverse (paired ls rs)
     → (f : Filling) → AgreesAsTold f known → filled f l ≡ filled f r → AllEqual as_told f pairs → AgreesAsTold f known × AllEqual as_told f then_pairs
 told_then known l r h k ls rs pairs then_pairs vl vr m n e f a q all =
     let same : filled f (sort h (row ls)) ≡ filled f (sort k (row rs)) = ap (filled f) vl ∙ q ∙ ap (filled f) (sym vr) in
-    (a, subst (AllEqual as_told f) (sym e) (all_append as_told f pairs (paired ls rs) all (paired_told f ls rs (rows_told f h k ls rs (λ u p. m u (ap head_of (sym vl) ∙ p)) (λ u p. n u (ap head_of (sym vr) ∙ p)) same))))
+    (a, subst (AllEqual as_told f) (sym e) (all_append as_told f pairs (reverse (paired ls rs)) all (all_reversed as_told f (paired ls rs) (paired_told f ls rs (rows_told f h k ls rs (λ u p. m u (ap head_of (sym vl) ∙ p)) (λ u p. n u (ap head_of (sym vr) ∙ p)) same)))))
 
 pub less_then : (known : Known) (l r : Sort) (h k : Head) (ls rs : List Sort) (pairs then_pairs : List Pair) → sort h (row ls) ≡ l → sort k (row rs) ≡ r → ((u : ℕ) → head_of l ≢ heads.Unknown u) → ((u : ℕ) → head_of r ≢ heads.Unknown u)
-    → IsOpen known l → IsOpen known r → then_pairs ≡ pairs ++ paired ls rs → weight known then_pairs < left_to_do (open_count known) (size_of l + size_of r + load known pairs)
+    → IsOpen known l → IsOpen known r → then_pairs ≡ pairs ++ reverse (paired ls rs) → weight known then_pairs < left_to_do (open_count known) (size_of l + size_of r + load known pairs)
 less_then known l r h k ls rs pairs then_pairs vl vr m n a b e =
     subst (λ (x : Sort). weight known then_pairs < left_to_do (open_count known) (size_of x + size_of r + load known pairs)) vl
     (subst (λ (y : Sort). weight known then_pairs < left_to_do (open_count known) (size_of (sort h (row ls)) + size_of y + load known pairs)) vr

@@ -1,28 +1,37 @@
 -- Sorts of two lists, place by place.
-use Rattle.std.proofs.Common.{◌≡◌, ℕ, zero, suc, ◌+◌, ◌≤◌, List, [], ◌∷◌, ◌++◌, append_assoc, take, length, Some, refl, sym, ap, ap₂, ◌∙◌, arith}
+use Rattle.std.proofs.Common.{◌≡◌, ℕ, zero, suc, ◌+◌, ◌<◌, List, [], ◌∷◌, ◌++◌, append_assoc, drop, length, reverse, Some, None, refl, sym, ap, ap₂, ◌∙◌, arith}
 use Rattle.std.specs.Prelude.{slice_get}
+use mathlib.Core.List.{reverse-cons}
 use Rattle.vf_sorts.specs.declared.pair.Pair.{Pair}
 use Rattle.vf_sorts.specs.Sorts.{Sort}
 use Rattle.vf_sorts.specs.Pairs.{paired}
 
--- two sorts more
-pub paired_more : (xs ys : List Sort) (i : ℕ) (x y : Sort) → slice_get xs i ≡ Some x → slice_get ys i ≡ Some y → paired (take (i + 1) xs) (take (i + 1) ys) ≡ paired (take i xs) (take i ys) ++ record { left = x; right = y } ∷ []
-paired_more [] ys i x y h k = absurd cc
-paired_more (a ∷ xs) [] i x y h k = absurd cc
-paired_more (a ∷ xs) (b ∷ ys) zero x y h k =
+-- the sorts at a place come before those behind them
+paired_from : (xs ys : List Sort) (i : ℕ) (x y : Sort) → slice_get xs i ≡ Some x → slice_get ys i ≡ Some y → drop i (paired xs ys) ≡ record { left = x; right = y } ∷ drop (i + 1) (paired xs ys)
+paired_from [] ys i x y h k = absurd cc
+paired_from (a ∷ xs) [] i x y h k = absurd cc
+paired_from (a ∷ xs) (b ∷ ys) zero x y h k =
     let p : a ≡ x = cc in
     let q : b ≡ y = cc in
-    ap₂ (λ (l r : Sort). record { left = l; right = r } ∷ []) p q
-paired_more (a ∷ xs) (b ∷ ys) (suc i) x y h k = let step : suc i + 1 ≡ suc (i + 1) = omega arith in rw step (ap (λ (ps : List Pair). record { left = a; right = b } ∷ ps) (paired_more xs ys i x y h k))
+    ap₂ (λ (l r : Sort). record { left = l; right = r } ∷ paired xs ys) p q
+paired_from (a ∷ xs) (b ∷ ys) (suc i) x y h k = let step : suc i + 1 ≡ suc (i + 1) = omega arith in rw step (paired_from xs ys i x y h k)
 
--- all of them
-pub paired_all : (xs ys : List Sort) (i : ℕ) → length xs ≤ i → length ys ≤ i → paired (take i xs) (take i ys) ≡ paired xs ys
-paired_all [] ys zero h k = refl
-paired_all [] ys (suc i) h k = refl
-paired_all (x ∷ xs) ys zero h k = absurd (omega arith)
-paired_all (x ∷ xs) [] (suc i) h k = refl
-paired_all (x ∷ xs) (y ∷ ys) (suc i) h k = ap (λ (ps : List Pair). record { left = x; right = y } ∷ ps) (paired_all xs ys i (omega arith) (omega arith))
+-- none are left behind as many as there are
+pub paired_none : (xs ys : List Sort) → drop (length xs) (paired xs ys) ≡ []
+paired_none [] ys = refl
+paired_none (x ∷ xs) [] = refl
+paired_none (x ∷ xs) (y ∷ ys) = paired_none xs ys
 
-pub appended_more : (start before then_pairs ps qs : List Pair) (p q : Pair) → then_pairs ≡ before ++ p ∷ [] → p ≡ q → before ≡ start ++ ps → qs ≡ ps ++ q ∷ [] → then_pairs ≡ start ++ qs
-appended_more start before then_pairs ps qs p q e s b m =
-    e ∙ ap₂ (λ (xs : List Pair) (x : Pair). xs ++ x ∷ []) b s ∙ append_assoc start ps (q ∷ []) ∙ ap (λ (xs : List Pair). start ++ xs) (sym m)
+pub appended_before : (start pairs then_pairs : List Pair) (xs ys : List Sort) (i : ℕ) (x y : Sort) (p : Pair) → slice_get xs i ≡ Some x → slice_get ys i ≡ Some y → p ≡ record { left = x; right = y }
+    → pairs ≡ start ++ reverse (drop (i + 1) (paired xs ys)) → then_pairs ≡ pairs ++ p ∷ [] → then_pairs ≡ start ++ reverse (drop i (paired xs ys))
+appended_before start pairs then_pairs xs ys i x y p h k is before e =
+    e ∙ ap₂ (λ (ps : List Pair) (q : Pair). ps ++ q ∷ []) before is
+    ∙ append_assoc start (reverse (drop (i + 1) (paired xs ys))) (record { left = x; right = y } ∷ [])
+    ∙ ap (λ (ps : List Pair). start ++ ps) (sym (reverse-cons (record { left = x; right = y }) (drop (i + 1) (paired xs ys))))
+    ∙ ap (λ (ps : List Pair). start ++ reverse ps) (sym (paired_from xs ys i x y h k))
+
+-- there is a sort at each place in front of as many as there are
+pub is_there : (xs : List Sort) (i : ℕ) → i < length xs → slice_get xs i ≡ None → ⊥
+is_there [] i lt e = omega (arith, lt)
+is_there (x ∷ xs) zero lt e = cc
+is_there (x ∷ xs) (suc i) lt e = is_there xs i (omega (arith, lt)) e

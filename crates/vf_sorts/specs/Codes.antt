@@ -1,8 +1,9 @@
 -- How the logic stores a sort.
-use Rattle.std.proofs.Common.{◌≡◌, List, Option, refl, ap}
+use Rattle.std.proofs.Common.{◌≡◌, ◌&&◌, nat_eq, Bool, true, false, List, Option, refl, ap}
 use Rattle.std.specs.Coded.{Coded, coded_list, coded_option}
 use base.Stored.{Gv, gnil, gnum, gcons}
 use Rattle.vf_sorts.specs.contracts.sort.Head as head_row
+use Rattle.vf_sorts.specs.declared.sort.Head.{Head}
 use Rattle.vf_sorts.specs.Sorts.{Sort, Sorts, sort, no_sorts, and_sort}
 
 -- the first and the second of what is stored as a pair
@@ -15,6 +16,17 @@ abbrev pub back : Gv → Gv
 back gnil = gnil
 back (gnum n) = gnil
 back (gcons a b) = b
+
+-- whether two things are stored alike
+abbrev pub are_stored_alike : Gv → Gv → Bool
+are_stored_alike gnil gnil = true
+are_stored_alike (gnum m) (gnum n) = nat_eq m n
+are_stored_alike (gcons a b) (gcons x y) = are_stored_alike a x && are_stored_alike b y
+are_stored_alike a b = false
+
+-- how a head is stored
+abbrev pub head_code : Head → Gv
+head_code h = head_row.the_row.coded.code h
 
 abbrev mutual
   -- a sort is stored as its head and its parts

@@ -4,4 +4,5 @@ pub mod Codes
 pub mod Unknowns
 pub mod Fillers
 pub mod Pairs
+pub mod Unifying
 pub mod Laws

@@ -1,5 +1,5 @@
 -- Sorts that are not known yet, and what is known of them.
-use Rattle.std.specs.Prelude.{◌≡◌, ◌↔◌, length, ℕ, ◌+◌, ◌<◌, nat_eq, nat_lt, Bool, true, false, ◌&&◌, ◌||◌, if◌then◌else◌, List, Option, Some, None, slice_get, slice_set, map}
+use Rattle.std.specs.Prelude.{◌≡◌, ℕ, ◌+◌, ◌<◌, nat_eq, nat_lt, Bool, true, false, ◌&&◌, ◌||◌, if◌then◌else◌, List, Option, Some, None, slice_get, slice_set, map}
 use Rattle.std.specs.Option.{option_map}
 use Rattle.vf_sorts.specs.declared.sort.Head.{Head}
 use Rattle.vf_sorts.specs.declared.sort.Head.TheVariants as heads
@@ -49,17 +49,6 @@ Agrees f known = (u : ℕ) (s : Sort) → slice_get known u ≡ Some (Some s) �
 -- sorts for the unknown ones agree with what is known, and with what pointers tell in it
 abbrev pub AgreesAsTold : Filling → Known → Type 0
 AgreesAsTold f known = (u : ℕ) (s : Sort) → slice_get known u ≡ Some (Some s) → f u ≡ filled f s
-
--- what is known makes two sorts equal, and nothing else: the sorts that agree with it are those that agreed with what was known and make the two alike; what pointers told is kept, and what they tell stands for the sorts that are learnt
-pub record Equates (known : Known) (s t : Sort) (then_known : Known) : Type 0 where
-  pub long : length then_known ≡ length known
-  pub alike : (f : Filling) → Agrees f then_known ↔ (Agrees f known × AreAlike (filled f s) (filled f t))
-  pub kept : (f : Filling) → AgreesAsTold f then_known → AgreesAsTold f known
-  pub told : (f : Filling) → AgreesAsTold f known → filled f s ≡ filled f t → AgreesAsTold f then_known
-
--- nothing that agrees with what is known makes two sorts alike
-abbrev pub AreApart : Known → Sort → Sort → Type 0
-AreApart known s t = (f : Filling) → Agrees f known → AreAlike (filled f s) (filled f t) → ⊥
 
 -- every unknown sort is `any`
 abbrev pub any_sort : Filling

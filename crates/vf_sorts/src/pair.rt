@@ -1,6 +1,6 @@
 //! Sorts that are to be made equal.
 
-ghost use Rattle.std.specs.Prelude.{◌≡◌, ◌++◌, length, IfOk, OnOk};
+ghost use Rattle.std.specs.Prelude.{◌≡◌, ◌++◌, length, reverse, IfOk, OnOk};
 ghost use Rattle.vf_sorts.specs.Pairs.{paired};
 
 use crate::sort::{Sort, SortList};
@@ -26,8 +26,8 @@ pub fn pair_of(alloc: Global, left: &Sort, right: &Sort) -> Result<Pair, Memory>
     })
 }
 
-/// Puts the sorts of two rows to some pairs, place by place.
-#[tactic(auto, using(crate::proofs::Pairing::paired_more, crate::proofs::Pairing::paired_all))]
+/// Puts the sorts of two rows to some pairs, place by place, the first at the end.
+#[tactic(auto, using(crate::proofs::Pairing::appended_before, crate::proofs::Pairing::paired_none))]
 pub fn pair_parts(
     alloc: Global,
     pairs: &mut Vec<Pair>,
@@ -35,9 +35,11 @@ pub fn pair_parts(
     right: &SortList,
 ) -> Result<(), Memory>
     requires { length left.now ≡ length right.now }
-    ensures { OnOk result (pairs.new.items ≡ pairs.old.items ++ paired left.now right.now) }
+    ensures { OnOk result (pairs.new.items ≡ pairs.old.items ++ reverse (paired left.now right.now)) }
 {
-    for i in 0..left.len() {
+    let mut i = left.len();
+    while i > 0 {
+        i -= 1;
         let Some(one) = left.get(i) else {
             return Ok(());
         };

@@ -4,6 +4,7 @@ ghost use Rattle.std.specs.Prelude.{◌≡◌, ◌↔◌, [], ◌∷◌, ◌++�
 ghost use Rattle.std.specs.Option.{option_copied};
 ghost use Rattle.vf_sorts.specs.Sorts.{sort, no_sorts, row};
 ghost use Rattle.vf_sorts.specs.Told.{untold_head};
+ghost use Rattle.vf_sorts.specs.Unifying.{are_heads_alike};
 
 use std::alloc::Global;
 use std::marker::Model;
@@ -66,8 +67,10 @@ fn untold_head(head: Head) -> Head
 }
 
 /// Whether two heads are one, up to what pointers tell.
+#[tactic(auto, using(crate::proofs::Alike::heads_alike))]
 pub fn are_alike(first: Head, second: Head) -> bool
-    ensures { IsTrue result ↔ (untold_head first ≡ untold_head second) }
+    ensures told { IsTrue result ↔ (untold_head first ≡ untold_head second) }
+    ensures is { result ≡ are_heads_alike first second }
 {
     are_one(untold_head(first), untold_head(second))
 }

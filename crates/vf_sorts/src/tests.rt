@@ -84,7 +84,7 @@ fn check(
 
 #[test]
 fn equations(rt: HostRuntime) -> Result<(), Fail> {
-    let cases: [(&[(&str, &str)], bool, (&str, &str)); 22] = [
+    let cases: [(&[(&str, &str)], bool, (&str, &str)); 23] = [
         (&[("i", "i")], true, ("0", "a")),
         (&[("i", "b")], false, ("i", "i")),
         (&[("0", "i")], true, ("0L", "iL")),
@@ -104,6 +104,7 @@ fn equations(rt: HostRuntime) -> Result<(), Fail> {
         (&[("p", "q"), ("w", "q")], true, ("w", "w")),
         (&[("0", "q"), ("0", "w"), ("p", "0")], true, ("0", "q")),
         (&[("qL", "0L"), ("0", "p")], true, ("0L", "qL")),
+        (&[("00P", "qwP")], true, ("0", "q")),
         (&[("0", "pL"), ("0", "qL")], true, ("0", "pL")),
         (&[("0", "q"), ("0", "i")], false, ("0", "q")),
         (&[("0", "1"), ("1", "w")], true, ("0", "w")),

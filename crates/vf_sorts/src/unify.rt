@@ -1,12 +1,13 @@
 //! Making sorts equal.
 
-ghost use Rattle.std.specs.Prelude.{◌≡◌, ◌≢◌, ◌↔◌, ℕ, ◌+◌, ◌≤◌, ◌<◌, ◌++◌, ◌∷◌, List, length, slice_get, Some, None, IsTrue, IfOk, OnOk, OnErr, MatchOption, MatchBool};
+ghost use Rattle.std.specs.Prelude.{◌≡◌, ◌≢◌, ◌↔◌, ℕ, ◌+◌, ◌≤◌, ◌<◌, ◌++◌, ◌∷◌, List, length, reverse, slice_get, Some, None, IsTrue, IfOk, OnOk, OnErr, MatchOption, MatchBool};
 ghost use Rattle.vf_sorts.specs.declared.sort.Head.TheVariants.{Unknown};
 ghost use Rattle.vf_sorts.specs.Sorts.{size_of};
 ghost use Rattle.vf_sorts.specs.Told.{AreAlike, as_told, untold};
-ghost use Rattle.vf_sorts.specs.Unknowns.{Filling, filled, Agrees, AgreesAsTold, AreApart, Equates, IsBelow, IsOpen, IsResolved, with_known};
+ghost use Rattle.vf_sorts.specs.Unknowns.{Filling, filled, Agrees, AgreesAsTold, IsBelow, IsOpen, IsResolved, with_known};
 ghost use Rattle.vf_sorts.specs.declared.pair.Pair.{Pair};
 ghost use Rattle.vf_sorts.specs.Pairs.{head_of, AreEqual, AllEqual, ArePairBelow, AreBelow, open_count, load, left_to_do, weight};
+ghost use Rattle.vf_sorts.specs.Unifying.{AreApart, Equates, by_heads, first_made, is_numbered, unknown_of, where_made, with_sort};
 
 use crate::filling::{resolve, substitute};
 use crate::occurrence::is_in;
@@ -17,7 +18,8 @@ use vf_base::Memory;
 
 /// The number of the unknown sort that a sort is, if it is one.
 fn unknown_in(sort: &Sort) -> Option<usize>
-    ensures { MatchOption result ((u : ℕ) → head_of sort.now ≢ Unknown u) (λ u. head_of sort.now ≡ Unknown u) }
+    ensures unknown { MatchOption result ((u : ℕ) → head_of sort.now ≢ Unknown u) (λ u. head_of sort.now ≡ Unknown u) }
+    ensures is { result ≡ unknown_of (head_of sort.now) }
 {
     match sort.head {
         Head::Unknown(number) => Some(number),
@@ -51,7 +53,8 @@ fn learn(
 
 /// Whether a sort is the unknown sort with a number.
 fn is_unknown(number: usize, sort: &Sort) -> bool
-    ensures { IsTrue result ↔ (head_of sort.now ≡ Unknown number) }
+    ensures told { IsTrue result ↔ (head_of sort.now ≡ Unknown number) }
+    ensures is { result ≡ is_numbered number (unknown_of (head_of sort.now)) }
 {
     match unknown_in(sort) {
         Some(other) => other == number,
@@ -60,7 +63,7 @@ fn is_unknown(number: usize, sort: &Sort) -> bool
 }
 
 /// Makes an unknown sort equal to a sort. No sort is equal to one that stands inside of it.
-#[tactic(auto, using(crate::proofs::Agreeing::learnt))]
+#[tactic(auto, using(crate::proofs::Agreeing::learnt, crate::proofs::Going::itself_made, crate::proofs::Going::inside_made, crate::proofs::Going::learnt_made))]
 fn assign(
     alloc: Global,
     known: &mut Vec<Option<Sort>>,
@@ -78,6 +81,7 @@ fn assign(
         ((f : Filling) → Agrees f known.new.items ↔ (Agrees f known.old.items × AreAlike (f number) (filled f sort)))
         ((f : Filling) → AreAlike (f number) (filled f sort) → ⊥)) }
     ensures told { OnOk result ((f : Filling) → AgreesAsTold f known.old.items → f number ≡ filled f sort → AgreesAsTold f known.new.items) }
+    ensures made { IfOk result (λ yes. with_sort known.old.items number sort ≡ where_made yes known.new.items) }
     ensures falls { IfOk result (λ yes. IsTrue yes → (pairs : List Pair) (more : ℕ) → 0 < more → weight known.new.items pairs < left_to_do (open_count known.old.items) (more + size_of sort + load known.old.items pairs)) }
 {
     if is_unknown(number, &sort) {
@@ -111,6 +115,7 @@ fn unify_resolved(
         ((f : Filling) → (Agrees f known.new.items × AllEqual untold f pairs.new.items) ↔ (Agrees f known.old.items × AreAlike (filled f left) (filled f right) × AllEqual untold f pairs.old.items))
         ((f : Filling) → AreAlike (filled f left) (filled f right) → ⊥)) }
     ensures told { OnOk result ((f : Filling) → AgreesAsTold f known.old.items → filled f left ≡ filled f right → AllEqual as_told f pairs.old.items → AgreesAsTold f known.new.items × AllEqual as_told f pairs.new.items) }
+    ensures made { IfOk result (λ yes. by_heads known.old.items (reverse pairs.old.items) left right ≡ where_made yes (known.new.items, reverse pairs.new.items)) }
     ensures falls { IfOk result (λ yes. IsTrue yes → weight known.new.items pairs.new.items < left_to_do (open_count known.old.items) (size_of left + size_of right + load known.old.items pairs.old.items)) }
 {
     if let Some(number) = unknown_in(&left) {
@@ -150,6 +155,7 @@ fn unify_pair(
         ((f : Filling) → (Agrees f known.new.items × AllEqual untold f pairs.new.items) ↔ (Agrees f known.old.items × AreEqual untold f pair × AllEqual untold f pairs.old.items))
         ((f : Filling) → Agrees f known.old.items → AreEqual untold f pair → ⊥)) }
     ensures told { OnOk result ((f : Filling) → AgreesAsTold f known.old.items → AreEqual as_told f pair → AllEqual as_told f pairs.old.items → AgreesAsTold f known.new.items × AllEqual as_told f pairs.new.items) }
+    ensures made { IfOk result (λ yes. first_made known.old.items pair (reverse pairs.old.items) ≡ where_made yes (known.new.items, reverse pairs.new.items)) }
     ensures falls { IfOk result (λ yes. IsTrue yes → weight known.new.items pairs.new.items < weight known.old.items (pair ∷ pairs.old.items)) }
 {
     let left = resolve(alloc, known, &pair.left)?;
@@ -159,7 +165,8 @@ fn unify_pair(
 }
 
 /// Makes two sorts equal, up to what pointers tell, by what comes to be known of the unknown ones; false where nothing
-/// does that.
+/// does that. The pair that is next stands at the end.
+#[tactic(auto, using(crate::proofs::Going::leads_first))]
 pub fn unify(
     alloc: Global,
     known: &mut Vec<Option<Sort>>,

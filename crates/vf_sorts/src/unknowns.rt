@@ -1,7 +1,8 @@
 //! Unknown sorts, and what is known of them.
 
 ghost use Rattle.std.specs.Prelude.{◌≡◌, ◌↔◌, ◌+◌, ◌++◌, [], ◌<◌, ◌^◌, length, replicate, None, IsTrue, IfOk, OnOk, OnErr, MatchBool};
-ghost use Rattle.vf_sorts.specs.Unknowns.{Filling, Agrees, AgreesAsTold, AreApart, AreBelow, Equates, IsBelow, by_known, filled, instance, settling};
+ghost use Rattle.vf_sorts.specs.Unknowns.{Filling, Agrees, AgreesAsTold, AreBelow, IsBelow, by_known, filled, instance, settling};
+ghost use Rattle.vf_sorts.specs.Unifying.{AreApart, Equates};
 
 use crate::filling::{resolve, settle};
 use crate::instance::instance;

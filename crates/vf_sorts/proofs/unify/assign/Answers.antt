@@ -13,7 +13,7 @@ pub returns-then-is_unknown-clause-falls : goal.returns-then-is_unknown-clause-f
 returns-then-is_unknown-clause-falls c = λ t pairs more p. dropped_less c.args.known.now.items pairs more (size_of c.args.sort) p
 
 pub returns-then-is_in-clause-equal : goal.returns-then-is_in-clause-equal
-returns-then-is_in-clause-equal c = λ f. never_equal f c.args.number c.args.sort (λ e. let t = c.is_unknown.ensures.1 e in let n = c.if-is_unknown.false in cc) (sym c.if-is_in.ensures)
+returns-then-is_in-clause-equal c = λ f. never_equal f c.args.number c.args.sort (λ e. let t = c.is_unknown.ensures.told.1 e in let n = c.if-is_unknown.false in cc) (sym c.if-is_in.ensures)
 
 pub returns-clause-resolved : goal.returns-clause-resolved
 returns-clause-resolved c = subst IsResolved (sym c.in_ok-learn.ensures.learnt) (resolved_with c.args.known.now.items c.args.number c.args.sort c.requires.unknown c.requires.open (sym c.if-is_in.ensures) c.requires.resolved)
