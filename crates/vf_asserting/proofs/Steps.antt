@@ -67,8 +67,8 @@ case_nameless {s = s} {ts = ts} {g = g} {b = b} n l q = subst (λ (o : Option (L
 pub case_other : {s : Scope} {o : Option (List Name)} {ns : List Name} {ts : List Sort} {g : Place} {e : RuleFault} → o ≡ Some ns → length ns ≢ length ts → e ≡ faults.Refused (refused rules.Typing g) → IsCaseBound s (names_or_none o) ts g (Err e)
 case_other {s = s} {ts = ts} {g = g} {e = e} n l q = subst (λ (o : Option (List Name)). IsCaseBound s (names_or_none o) ts g (Err e)) (sym n) (record { answers = refusing _ _ _ q (cases.other_count l) })
 
-pub case_fails : {s : Scope} {o : Option (List Name)} {ns : List Name} {ts : List Sort} {g : Place} {b b' : Bound} {res : Result Bound RuleFault} (e : RuleFault) → o ≡ Some ns → b ≡ no_names → AreNamed {A = Unit {0}} s b ns ts (Err e) b' → res ≡ Err e → IsCaseBound s (names_or_none o) ts g res
-case_fails {s = s} {ns = ns} {ts = ts} {g = g} {res = res} e n w i q = subst (λ (o : Option (List Name)). IsCaseBound s (names_or_none o) ts g res) (sym n) (record { answers = failing _ _ _ e (λ r h. cases.one_of_them (subst (λ (x : Bound). cases.AnyNameFails s x ns ts r) w h)) i.answers q })
+pub case_fails : {s : Scope} {o : Option (List Name)} {ns : List Name} {ts : List Sort} {g : Place} {b b' : Bound} {res : Result Bound RuleFault} (e : RuleFault) → o ≡ Some ns → length ns ≡ length ts → b ≡ no_names → AreNamed {A = Unit {0}} s b ns ts (Err e) b' → res ≡ Err e → IsCaseBound s (names_or_none o) ts g res
+case_fails {s = s} {ns = ns} {ts = ts} {g = g} {res = res} e n l w i q = subst (λ (o : Option (List Name)). IsCaseBound s (names_or_none o) ts g res) (sym n) (record { answers = failing _ _ _ e (λ r h. cases.one_of_them l (subst (λ (x : Bound). cases.AnyNameFails s x ns ts r) w h)) i.answers q })
 
 pub case_binds : {s : Scope} {o : Option (List Name)} {ns : List Name} {ts : List Sort} {g : Place} {b b' : Bound} → o ≡ Some ns → b ≡ no_names → AreNamed {A = Unit {0}} s b ns ts (Ok tt) b' → IsCaseBound s (names_or_none o) ts g (Ok b')
 case_binds {s = s} {ns = ns} {ts = ts} {g = g} {b' = b'} n w i = subst (λ (o : Option (List Name)). IsCaseBound s (names_or_none o) ts g (Ok b')) (sym n) (record { answers = subst (λ (x : Bound). cases.NamesBind s x ns ts b') w i.answers })

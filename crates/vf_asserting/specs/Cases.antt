@@ -108,4 +108,4 @@ pub data AnyNameFails (s : Scope) : Bound → List Name → List Sort → Refusa
 -- the names of a case whose constructor stands at a place are refused: there are others than it has arguments, or one may not be bound
 pub data NamesFail (s : Scope) : List Name → List Sort → Place → Refusal → Type 0 where
   other_count : {ns : List Name} {ts : List Sort} {g : Place} → length ns ≢ length ts → NamesFail s ns ts g (refused rules.Typing g)
-  one_of_them : {ns : List Name} {ts : List Sort} {g : Place} {r : Refusal} → AnyNameFails s no_names ns ts r → NamesFail s ns ts g r
+  one_of_them : {ns : List Name} {ts : List Sort} {g : Place} {r : Refusal} → length ns ≡ length ts → AnyNameFails s no_names ns ts r → NamesFail s ns ts g r

@@ -49,6 +49,9 @@ counted : (xs : List GhostExprTree) → count (ghost_expr_list xs) ≡ length xs
 counted [] = refl
 counted (x ∷ xs) = let r = counted xs in omega (arith, r)
 
+same_count : (n : ℕ) (xs : List GhostExprTree) → n ≡ length xs → nat_eq n (count (ghost_expr_list xs)) ≡ true
+same_count n xs q = let r = counted xs in let same : n ≡ count (ghost_expr_list xs) = q ∙ sym r in grind (arith, nat_tests)
+
 other_count : (n : ℕ) (xs : List GhostExprTree) → n ≢ length xs → nat_eq n (count (ghost_expr_list xs)) ≡ false
 other_count n xs q = let r = counted xs in let other : n ≢ count (ghost_expr_list xs) = (λ e. q (e ∙ r)) in grind (arith, nat_tests)
 
@@ -67,9 +70,9 @@ call_stray n y a w b q = record { answers = refusing _ _ _ q (calls.stray (sym n
 pub count_fails : {s : Scope} {c : Context} {k : Known} {p : Place} {f : List ℕ} {g : Callee} {y b : Bool} {e : RuleFault} (xs : List GhostExprTree) → y ≡ names_predicate s k f → y ≡ false → callee_of s c.own p f ≡ Ok g → (IsTrue b ↔ AreBelow (length k) g.arguments) → b ≡ true → length g.arguments ≢ length xs → e ≡ faults.Refused (refused rules.Typing p) → IsCalled {A = Unit {0}} s c k p f (ghost_expr_list xs) (Err e) k
 count_fails {g = g} xs n y a w b l q = record { answers = refusing _ _ _ q (calls.other_count (sym n ∙ y) a (w.0 b) (other_count (length g.arguments) xs l)) }
 
-pub arguments_fail : {s : Scope} {c : Context} {k j k' : Known} {p : Place} {f : List ℕ} {xs : GhostExprTrees} {g : Callee} {y b : Bool} {first : ℕ} {res : Result (Unit {0}) RuleFault} (e : RuleFault) → y ≡ names_predicate s k f → y ≡ false → callee_of s c.own p f ≡ Ok g → (IsTrue b ↔ AreBelow (length k) g.arguments) → b ≡ true → first ≡ length k → j ≡ with_fresh k g.parameters → AreChecked {A = Unit {0}} s c j first g.parameters g.arguments xs (Err e) k' → res ≡ Err e → IsCalled s c k p f xs res k'
-arguments_fail {s = s} {c = c} {k = k} {xs = xs} {g = g} {first = first} e n y a v b f q i w =
-    record { answers = failing _ _ _ e (λ r h. calls.argument (sym n ∙ y) a (v.0 b) (subst (λ (m : ℕ). AnyFails s c (with_fresh k g.parameters) m g.parameters g.arguments xs r) f (subst (λ (u : Known). AnyFails s c u first g.parameters g.arguments xs r) q h))) i.answers w }
+pub arguments_fail : {s : Scope} {c : Context} {k j k' : Known} {p : Place} {f : List ℕ} {g : Callee} {y b : Bool} {first : ℕ} {res : Result (Unit {0}) RuleFault} (xs : List GhostExprTree) (e : RuleFault) → y ≡ names_predicate s k f → y ≡ false → callee_of s c.own p f ≡ Ok g → (IsTrue b ↔ AreBelow (length k) g.arguments) → b ≡ true → length g.arguments ≡ length xs → first ≡ length k → j ≡ with_fresh k g.parameters → AreChecked {A = Unit {0}} s c j first g.parameters g.arguments (ghost_expr_list xs) (Err e) k' → res ≡ Err e → IsCalled s c k p f (ghost_expr_list xs) res k'
+arguments_fail {s = s} {c = c} {k = k} {g = g} {first = first} xs e n y a v b l f q i w =
+    record { answers = failing _ _ _ e (λ r h. calls.argument (sym n ∙ y) a (v.0 b) (same_count (length g.arguments) xs l) (subst (λ (m : ℕ). AnyFails s c (with_fresh k g.parameters) m g.parameters g.arguments (ghost_expr_list xs) r) f (subst (λ (u : Known). AnyFails s c u first g.parameters g.arguments (ghost_expr_list xs) r) q h))) i.answers w }
 
 pub call_passes : {s : Scope} {c : Context} {k j k' : Known} {p : Place} {f : List ℕ} {xs : GhostExprTrees} {g : Callee} {y b : Bool} {first : ℕ} → y ≡ names_predicate s k f → y ≡ false → callee_of s c.own p f ≡ Ok g → (IsTrue b ↔ AreBelow (length k) g.arguments) → b ≡ true → first ≡ length k → j ≡ with_fresh k g.parameters → AreChecked {A = Unit {0}} s c j first g.parameters g.arguments xs (Ok tt) k' → IsCalled {A = Unit {0}} s c k p f xs (Ok tt) k'
 call_passes {s = s} {c = c} {k = k} {j = j} {k' = k'} {xs = xs} {g = g} {first = first} n y a w b m q i =

@@ -57,4 +57,4 @@ pub data CallFails (s : Scope) (c : Context) : Known → Place → List ℕ → 
   no_lemma : {k : Known} {p : Place} {f : List ℕ} {xs : GhostExprTrees} {r : Refusal} → names_predicate s k f ≡ false → callee_of s c.own p f ≡ Err r → CallFails s c k p f xs r
   stray : {k : Known} {p : Place} {f : List ℕ} {xs : GhostExprTrees} {g : Callee} → names_predicate s k f ≡ false → callee_of s c.own p f ≡ Ok g → (AreBelow (length k) g.arguments → ⊥) → CallFails s c k p f xs (refused rules.Typing p)
   other_count : {k : Known} {p : Place} {f : List ℕ} {xs : GhostExprTrees} {g : Callee} → names_predicate s k f ≡ false → callee_of s c.own p f ≡ Ok g → AreBelow (length k) g.arguments → nat_eq (length g.arguments) (count xs) ≡ false → CallFails s c k p f xs (refused rules.Typing p)
-  argument : {k : Known} {p : Place} {f : List ℕ} {xs : GhostExprTrees} {g : Callee} {r : Refusal} → names_predicate s k f ≡ false → callee_of s c.own p f ≡ Ok g → AreBelow (length k) g.arguments → AnyFails s c (with_fresh k g.parameters) (length k) g.parameters g.arguments xs r → CallFails s c k p f xs r
+  argument : {k : Known} {p : Place} {f : List ℕ} {xs : GhostExprTrees} {g : Callee} {r : Refusal} → names_predicate s k f ≡ false → callee_of s c.own p f ≡ Ok g → AreBelow (length k) g.arguments → nat_eq (length g.arguments) (count xs) ≡ true → AnyFails s c (with_fresh k g.parameters) (length k) g.parameters g.arguments xs r → CallFails s c k p f xs r

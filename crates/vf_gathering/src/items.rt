@@ -3,7 +3,7 @@
 ghost use Rattle.std.specs.Prelude.{◌≡◌, IfOk};
 ghost use Rattle.std.specs.Option.{option_copied};
 ghost use Rattle.vf_gathering.specs.Named as named;
-ghost use Rattle.vf_gathering.specs.Standing.{Tells};
+ghost use Rattle.vf_gathering.specs.Standing.{Tells, no_names, with_names};
 
 use crate::standing::{no_names, with_optional};
 use std::alloc::Global;
@@ -28,7 +28,8 @@ fn datatype_of(item: &Item) -> Option<&Name>
 /// The names of the datatypes that items declare, each with the files in which one of that name stands.
 #[tactic(auto, using(crate::proofs::Tables::all_told))]
 pub fn datatypes_of(alloc: Global, items: &Sequence<Item>) -> Result<Stated, Memory>
-    ensures { IfOk result (λ d. Tells (named.datatypes_in items.now) d) }
+    ensures tells { IfOk result (λ d. Tells (named.datatypes_in items.now) d) }
+    ensures is { IfOk result (λ d. d ≡ with_names no_names (named.datatypes_in items.now)) }
 {
     let mut stated = no_names(alloc);
     for item in items.as_slice() {

@@ -20,18 +20,18 @@ pub memory : {f : Files} {xs : List Item} {res : Result Scope RuleFault} → res
 memory {f = f} {xs = xs} q = record { answers = subst (Answers (λ s. ItemsCome xs (beginning f xs) (Ok s)) (λ x. ItemsCome xs (beginning f xs) (Err x))) (sym q) tt }
 
 -- from where it begins
-begun : {f : Files} {xs : List Item} {s : Scope} {d : Stated} {w : walking.Walked} → s ≡ beginning f xs → standing.Tells (datatypes_in xs) d → WalksItems (meanings d) xs s w → ItemsCome xs (beginning f xs) w
-begun {f = f} {xs = xs} {d = d} {w = w} b t h = record { stated = d; tells = t; walks = subst (λ (u : Scope). WalksItems (meanings d) xs u w) b h }
+begun : {f : Files} {xs : List Item} {s : Scope} {d : Stated} {w : walking.Walked} → s ≡ beginning f xs → standing.Tells (datatypes_in xs) d → d ≡ standing.with_names standing.no_names (datatypes_in xs) → WalksItems (meanings d) xs s w → ItemsCome xs (beginning f xs) w
+begun {f = f} {xs = xs} {d = d} {w = w} b t i h = record { stated = d; tells = t; is = i; walks = subst (λ (u : Scope). WalksItems (meanings d) xs u w) b h }
 
-told : (f : Files) (xs : List Item) {s t : Scope} {d : Stated} (e : RuleFault) → s ≡ beginning f xs → standing.Tells (datatypes_in xs) d → Follows (WalksItems (meanings d) xs s) (Err e) t → Tells (λ x. ItemsCome xs (beginning f xs) (Err x)) e
-told f xs (faults.Refused x) b t (walking.to_refusal h) = begun b t h
-told f xs faults.Memory b t h = tt
+told : (f : Files) (xs : List Item) {s t : Scope} {d : Stated} (e : RuleFault) → s ≡ beginning f xs → standing.Tells (datatypes_in xs) d → d ≡ standing.with_names standing.no_names (datatypes_in xs) → Follows (WalksItems (meanings d) xs s) (Err e) t → Tells (λ x. ItemsCome xs (beginning f xs) (Err x)) e
+told f xs (faults.Refused x) b t i (walking.to_refusal h) = begun b t i h
+told f xs faults.Memory b t i h = tt
 
-pub stops : {f : Files} {xs : List Item} {s t : Scope} {d : Stated} {res : Result Scope RuleFault} (e : RuleFault) → s ≡ beginning f xs → standing.Tells (datatypes_in xs) d → Follows (WalksItems (meanings d) xs s) (Err e) t → res ≡ Err e → IsResolved f xs res
-stops {f = f} {xs = xs} e b t h q = record { answers = subst (Answers (λ s. ItemsCome xs (beginning f xs) (Ok s)) (λ x. ItemsCome xs (beginning f xs) (Err x))) (sym q) (told f xs e b t h) }
+pub stops : {f : Files} {xs : List Item} {s t : Scope} {d : Stated} {res : Result Scope RuleFault} (e : RuleFault) → s ≡ beginning f xs → standing.Tells (datatypes_in xs) d → d ≡ standing.with_names standing.no_names (datatypes_in xs) → Follows (WalksItems (meanings d) xs s) (Err e) t → res ≡ Err e → IsResolved f xs res
+stops {f = f} {xs = xs} e b t i h q = record { answers = subst (Answers (λ s. ItemsCome xs (beginning f xs) (Ok s)) (λ x. ItemsCome xs (beginning f xs) (Err x))) (sym q) (told f xs e b t i h) }
 
-ended : {f : Files} {xs : List Item} {s t : Scope} {d : Stated} → s ≡ beginning f xs → standing.Tells (datatypes_in xs) d → Follows (WalksItems (meanings d) xs s) (Ok tt) t → ItemsCome xs (beginning f xs) (Ok t)
-ended b t (walking.to_end h) = begun b t h
+ended : {f : Files} {xs : List Item} {s t : Scope} {d : Stated} → s ≡ beginning f xs → standing.Tells (datatypes_in xs) d → d ≡ standing.with_names standing.no_names (datatypes_in xs) → Follows (WalksItems (meanings d) xs s) (Ok tt) t → ItemsCome xs (beginning f xs) (Ok t)
+ended b t i (walking.to_end h) = begun b t i h
 
-pub comes : {f : Files} {xs : List Item} {s t : Scope} {d : Stated} → s ≡ beginning f xs → standing.Tells (datatypes_in xs) d → Follows (WalksItems (meanings d) xs s) (Ok tt) t → IsResolved f xs (Ok t)
-comes b t h = record { answers = ended b t h }
+pub comes : {f : Files} {xs : List Item} {s t : Scope} {d : Stated} → s ≡ beginning f xs → standing.Tells (datatypes_in xs) d → d ≡ standing.with_names standing.no_names (datatypes_in xs) → Follows (WalksItems (meanings d) xs s) (Ok tt) t → IsResolved f xs (Ok t)
+comes b t i h = record { answers = ended b t i h }
