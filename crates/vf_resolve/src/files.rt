@@ -7,7 +7,8 @@ use vf_base::{NumberList, Sequence};
 pub struct Files {
     /// The unit's own file.
     pub own: u32,
-    /// For each file by its number, the files that it includes, directly or through others.
+    /// For each file by its number, the files of which it consists: itself, and those that it includes, directly or
+    /// through others. Of a file that is not of the unit, none.
     pub headers: Sequence<NumberList>,
     /// The files that are preludes.
     pub preludes: NumberList,
