@@ -135,7 +135,8 @@ fn answers(rt: HostRuntime) -> Result<(), Fail> {
     Ok(())
 }
 
-/// Files of the first form and of others: what `a.c` and `h.h` hold, the status, and what is printed.
+/// Files of the first form, of others, and of faults in names, sorts, fixpoints and order: what `a.c` and `h.h` hold, the
+/// status, and what is printed.
 #[test]
 fn readings(rt: HostRuntime) -> Result<(), Fail> {
     const ACCEPTED: &str = "a.c: accepted\nlinked\nreturned 7\n";
@@ -193,14 +194,50 @@ fn readings(rt: HostRuntime) -> Result<(), Fail> {
             "#include \"h.h\"\n",
             "int main()\n//@ requires true;\n//@ ensures true;\n{ return 7; }",
             Status::Refused,
-            OTHER,
+            "h.h:4:1: rule 11 unsupported\n",
+        ),
+        (
+            "int main()\n//@ requires true;\n//@ ensures true;\n{ //@ int g = 7;\n return g; }",
+            "",
+            Status::Refused,
+            "a.c:5:9: rule 7 ghostinreal\n",
+        ),
+        (
+            "int main()\n//@ requires 1;\n//@ ensures true;\n{ return 0; }",
+            "",
+            Status::Refused,
+            "a.c:2:14: rule 6 type\n",
+        ),
+        (
+            "//@ inductive t = c(t);\n",
+            "",
+            Status::Refused,
+            "a.c:1:15: rule 9 inductive\n",
+        ),
+        (
+            "#include <stdlib.h>\nint main()\n//@ requires true;\n//@ ensures true;\n{ abort(1); return 0; }",
+            "",
+            Status::Refused,
+            "a.c:5:3: rule 6 type\n",
+        ),
+        (
+            "/*@\ninductive t = n | c(t);\nfixpoint int f(t x) { switch (x) { case n: return 0; case c(y): return f(x); } }\n@*/",
+            "",
+            Status::Refused,
+            "a.c:3:72: rule 10 fixpoint\n",
+        ),
+        (
+            "int g(int x);\n//@ requires true;\n//@ ensures true;\nint f(int a, int b)\n//@ requires true;\n//@ ensures true;\n{\n  return f(g(1), g(2));\n}",
+            "",
+            Status::Refused,
+            "a.c:8:18: rule 8 order\n",
         ),
         ("struct s;", "", Status::Refused, OTHER),
         (
             "int main()\n//@ requires true;\n//@ ensures true;\n{ return x; }",
             "",
             Status::Refused,
-            OTHER,
+            "a.c:4:10: rule 5 name\n",
         ),
         (
             "int main()\n//@ requires true;\n//@ ensures true;\n{ int x = x; return 7; }",
@@ -212,7 +249,7 @@ fn readings(rt: HostRuntime) -> Result<(), Fail> {
             "int main()\n//@ requires true;\n//@ ensures true;\n{ int x = 7; int x = 7; return x; }",
             "",
             Status::Refused,
-            OTHER,
+            "a.c:4:18: rule 5 name\n",
         ),
         (
             "int main()\n//@ requires true;\n//@ ensures true;\n{ unsigned x = 7; return x; }",

@@ -14,7 +14,7 @@ use Rattle.vf_term.proofs.Seeing.{seen_begun}
 use Rattle.vf_exec.specs.Main.{checks}
 use Rattle.vf_tool.specs.declared.verdict.Verdict.{Verdict}
 use Rattle.vf_tool.specs.declared.verdict.Verdict.TheVariants.{Accepted, Refused}
-use Rattle.vf_tool.specs.Readings.{reading_of}
+use Rattle.vf_tool.specs.Readings.{ReadsAs}
 use Rattle.vf_tool.specs.Verdict.{Checked, Judged, JudgedBy}
 
 pub accepts : (core : Core) (defs : Definitions) (j k : Journal) (t : Seen) → HasBegun defs j k → Follows (checks core) (seen k) t (Ok tt) → Checked core (seen j) t (Accepted core)
@@ -25,21 +25,21 @@ unfolding Blames
 refuses core defs j k t refusal begins p = subst (λ (s : Seen). Follows (checks core) s t (Err refusal)) (seen_begun defs j k begins) p
 
 -- the file at a path reads as this, whatever stands in files of which nothing is held
-abbrev pub ReadsAs : Holdings → List ℕ → Result Core Refusal → Type 0
-ReadsAs held path r = (library : Library) → Tells library held → reading_of library path ≡ Some r
+abbrev pub ReadsBy : Holdings → List ℕ → Result Core Refusal → Type 0
+ReadsBy held path r = (library : Library) → Tells library held → ReadsAs held library path r
 
-pub unread : (held : Holdings) (path : List ℕ) (s : Seen) (refusal : Refusal) → ReadsAs held path (Err refusal) → JudgedBy held path s s (Refused refusal)
+pub unread : (held : Holdings) (path : List ℕ) (s : Seen) (refusal : Refusal) → ReadsBy held path (Err refusal) → JudgedBy held path s s (Refused refusal)
 unread held path s refusal reads = λ library tells. inr (record { reads = reads library tells; quiet = refl })
 
-judged : (library : Library) (path : List ℕ) (s t : Seen) (core : Core) (v : Verdict) → reading_of library path ≡ Some (Ok core) → Checked core s t v → Judged library path s t v
-judged library path s t core (Accepted accepted) reads (same, follows) = record {
-  reads = reads ∙ ap (λ (c : Core). Some (Ok c)) (sym same);
+judged : (held : Holdings) (library : Library) (path : List ℕ) (s t : Seen) (core : Core) (v : Verdict) → ReadsAs held library path (Ok core) → Checked core s t v → Judged held library path s t v
+judged held library path s t core (Accepted accepted) reads (same, follows) = record {
+  reads = subst (λ (c : Core). ReadsAs held library path (Ok c)) (sym same) reads;
   follows = subst (λ (c : Core). Follows (checks c) (begun s) t (Ok tt)) (sym same) follows;
 }
-judged library path s t core (Refused refusal) reads follows = inl (record { core = core; reads = reads; follows = follows })
+judged held library path s t core (Refused refusal) reads follows = inl (record { core = core; reads = reads; follows = follows })
 
-pub checked : (held : Holdings) (path : List ℕ) (s t : Seen) (core : Core) (v : Verdict) → ReadsAs held path (Ok core) → Checked core s t v → JudgedBy held path s t v
-checked held path s t core v reads c = λ library tells. judged library path s t core v (reads library tells) c
+pub checked : (held : Holdings) (path : List ℕ) (s t : Seen) (core : Core) (v : Verdict) → ReadsBy held path (Ok core) → Checked core s t v → JudgedBy held path s t v
+checked held path s t core v reads c = λ library tells. judged held library path s t core v (reads library tells) c
 
 pub ruleset checking = (accepts, refuses)
 

@@ -4,6 +4,7 @@ pub mod Formed
 pub mod Judgements
 pub mod Loading
 pub mod Parsed
+pub mod Phased
 pub mod Readable
 pub mod Safety
 pub mod Scoped

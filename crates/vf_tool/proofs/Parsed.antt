@@ -17,8 +17,8 @@ use Rattle.vf_parse_c.specs.Unsupported.{first_unsupported}
 use Rattle.vf_parse.specs.Wholes.{whole_at}
 use Rattle.vf_preproc.specs.UnitText.{Text_of_unit}
 use Rattle.vf_tree.specs.declared.unit.Core.{Core}
-use Rattle.vf_first.specs.FirstForm.{first_form}
-use Rattle.vf_tool.specs.Readings.{refusal_at, refusal_of, items_or, items_unless, items_of, core_or, core_in, core_of, refused, result_of}
+use Rattle.vf_snapshot.specs.Holdings.{Holdings}
+use Rattle.vf_tool.specs.Readings.{ItemsRead, UnitReads, items_of, items_or, items_unless, refusal_at, refusal_of, refused, result_of}
 use Rattle.vf_tool.specs.declared.reading.Reading.{Reading}
 
 -- the refusal for a fault of the parser that is no want of memory
@@ -67,23 +67,19 @@ parsed_by ts r unit same unsupported read = parsed r unit
     (subst (λ (xs : List Token). (p : Place) → first_unsupported xs ≡ Some p → r ≡ Err (parse_faults.Unsupported p)) same unsupported)
     (subst (λ (xs : List Token). first_unsupported xs ≡ None → Answers r unit.end_of_file xs (whole_at 128 xs)) same read)
 
--- a unit that was read
-pub read_ok : (path : List ℕ) (unit : Text_of_unit) (u : units.Unit) (r : Result Core Refusal) → ParsesTo (Ok u) (items_of unit) → r ≡ core_or unit.end_of_file.file (first_form path unit.end_of_file.file u.items) → r ≡ core_of path unit
-read_ok path unit u r items e = e ∙ ap (core_in path unit.end_of_file.file) (sym items)
-
--- the same of an answer
-pub answers_ok : (path : List ℕ) (unit : Text_of_unit) (u : units.Unit) (r : Result Reading Memory) → ParsesTo (Ok u) (items_of unit) → IfOk r (λ x. result_of x ≡ core_or unit.end_of_file.file (first_form path unit.end_of_file.file u.items)) → IfOk r (λ x. result_of x ≡ core_of path unit)
-answers_ok path unit u (Ok x) items e = read_ok path unit u (result_of x) items e
-answers_ok path unit u (Err m) items e = tt
+-- an answer to a unit whose items were read
+pub answers_ok : (held : Holdings) (path : List ℕ) (unit : Text_of_unit) (u : units.Unit) (r : Result Reading Memory) → ParsesTo (Ok u) (items_of unit) → IfOk r (λ x. ItemsRead held path unit u.items (result_of x)) → IfOk r (λ x. UnitReads held path unit (items_of unit) (result_of x))
+answers_ok held path unit u (Ok x) items h = subst (λ (i : Result (List Item) Refusal). UnitReads held path unit i (result_of x)) (sym items) h
+answers_ok held path unit u (Err m) items h = tt
 
 -- what a fault reads as, where it is no want of memory
-refused_core : (path : List ℕ) (unit : Text_of_unit) (f : ParseFault) (r : Result Core Refusal) → RefusedAs f (items_of unit) → refused f ≡ Some r → r ≡ core_of path unit
-refused_core path unit parse_faults.Memory r items e = absurd cc
-refused_core path unit (parse_faults.Unsupported p) r items e = let same : Err (refusal_at Unsupported p) ≡ r = cc in sym same ∙ ap (core_in path unit.end_of_file.file) (sym items)
-refused_core path unit (parse_faults.Syntax p) r items e = let same : Err (refusal_at Syntax p) ≡ r = cc in sym same ∙ ap (core_in path unit.end_of_file.file) (sym items)
-refused_core path unit (parse_faults.Depth p) r items e = let same : Err (refusal_at Depth p) ≡ r = cc in sym same ∙ ap (core_in path unit.end_of_file.file) (sym items)
+refused_unit : (held : Holdings) (path : List ℕ) (unit : Text_of_unit) (f : ParseFault) (r : Result Core Refusal) → RefusedAs f (items_of unit) → refused f ≡ Some r → UnitReads held path unit (items_of unit) r
+refused_unit held path unit parse_faults.Memory r items e = absurd cc
+refused_unit held path unit (parse_faults.Unsupported p) r items e = let same : r ≡ Err (refusal_at Unsupported p) = cc in subst (λ (i : Result (List Item) Refusal). UnitReads held path unit i r) (sym items) same
+refused_unit held path unit (parse_faults.Syntax p) r items e = let same : r ≡ Err (refusal_at Syntax p) = cc in subst (λ (i : Result (List Item) Refusal). UnitReads held path unit i r) (sym items) same
+refused_unit held path unit (parse_faults.Depth p) r items e = let same : r ≡ Err (refusal_at Depth p) = cc in subst (λ (i : Result (List Item) Refusal). UnitReads held path unit i r) (sym items) same
 
 -- an answer to a unit that was refused
-pub answers_err : (path : List ℕ) (unit : Text_of_unit) (f : ParseFault) (r : Result Reading Memory) → RefusedAs f (items_of unit) → IfOk r (λ x. refused f ≡ Some (result_of x)) → IfOk r (λ x. result_of x ≡ core_of path unit)
-answers_err path unit f (Ok x) items e = refused_core path unit f (result_of x) items e
-answers_err path unit f (Err m) items e = tt
+pub answers_err : (held : Holdings) (path : List ℕ) (unit : Text_of_unit) (f : ParseFault) (r : Result Reading Memory) → RefusedAs f (items_of unit) → IfOk r (λ x. refused f ≡ Some (result_of x)) → IfOk r (λ x. UnitReads held path unit (items_of unit) (result_of x))
+answers_err held path unit f (Ok x) items e = refused_unit held path unit f (result_of x) items e
+answers_err held path unit f (Err m) items e = tt

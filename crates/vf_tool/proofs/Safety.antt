@@ -24,29 +24,29 @@ use Rattle.vf_sound.specs.Formed.{IsFormed}
 use Rattle.vf_tool.proofs.Readable.{reading_is_formed}
 
 -- what is accepted over a library reads as a core that is formed
-formed : (library : Library) (file : List ℕ) (t : Seen) (core : Core) → IsAccepted library file nothing_seen t core → IsFormed core
-formed library file t core accepted = reading_is_formed library file core accepted.reads
+formed : (held : Holdings) (library : Library) (file : List ℕ) (t : Seen) (core : Core) → IsAccepted held library file nothing_seen t core → IsFormed core
+formed held library file t core accepted = reading_is_formed held library file core accepted.reads
 
 -- a unit that is accepted by right answers is safe, in each environment that has all of the unit's
-always_safe : (library : Library) (file : List ℕ) (t : Seen) (core : Core) (e : Environment) → AreRightFrom 0 t → IsAccepted library file nothing_seen t core → Extends (environment_of core) e → IsAlwaysSafe e (program_of core.plain)
-always_safe library file t core e right accepted extends =
-    accepted_is_safe core e 0 (begun nothing_seen) t (formed library file t core accepted) extends (omega arith) accepted.follows right
+always_safe : (held : Holdings) (library : Library) (file : List ℕ) (t : Seen) (core : Core) (e : Environment) → AreRightFrom 0 t → IsAccepted held library file nothing_seen t core → Extends (environment_of core) e → IsAlwaysSafe e (program_of core.plain)
+always_safe held library file t core e right accepted extends =
+    accepted_is_safe core e 0 (begun nothing_seen) t (formed held library file t core accepted) extends (omega arith) accepted.follows right
 
-safe_unit : (library : Library) (file : List ℕ) (t : Seen) (core : Core) → AreRightFrom 0 t → IsAccepted library file nothing_seen t core → IsSafeLinked (environment_of core ∷ []) (program_of core.plain)
-safe_unit library file t core right accepted = record {
+safe_unit : (held : Holdings) (library : Library) (file : List ℕ) (t : Seen) (core : Core) → AreRightFrom 0 t → IsAccepted held library file nothing_seen t core → IsSafeLinked (environment_of core ∷ []) (program_of core.plain)
+safe_unit held library file t core right accepted = record {
   environment = environment_of core;
   linked = one_unit_links core;
-  safe = λ events. (always_safe library file t core (environment_of core) right accepted (extends_itself (environment_of core)) events).0;
-  kept = λ e linked events. (always_safe library file t core e right accepted (linked.all (environment_of core) (0, omega arith, refl)) events).1;
+  safe = λ events. (always_safe held library file t core (environment_of core) right accepted (extends_itself (environment_of core)) events).0;
+  kept = λ e linked events. (always_safe held library file t core e right accepted (linked.all (environment_of core) (0, omega arith, refl)) events).1;
 }
 
-safe_verdict : (library : Library) (file : List ℕ) (t : Seen) (v : Verdict) → AreRightFrom 0 t → Judged library file nothing_seen t v → WhereAccepted v
-safe_verdict library file t (Accepted core) right judged = safe_unit library file t core right judged
-safe_verdict library file t (Refused refusal) right judged = tt
+safe_verdict : (held : Holdings) (library : Library) (file : List ℕ) (t : Seen) (v : Verdict) → AreRightFrom 0 t → Judged held library file nothing_seen t v → WhereAccepted v
+safe_verdict held library file t (Accepted core) right judged = safe_unit held library file t core right judged
+safe_verdict held library file t (Refused refusal) right judged = tt
 
 -- a verdict by what is held of the files is one over a library
 safe_held : (held : Holdings) (file : List ℕ) (t : Seen) (v : Verdict) → AreRightFrom 0 t → JudgedBy held file nothing_seen t v → WhereAccepted v
-safe_held held file t v right judged = let l = told held in safe_verdict l.0 file t v right (judged l.0 l.1)
+safe_held held file t v right judged = let l = told held in safe_verdict held l.0 file t v right (judged l.0 l.1)
 
 -- what a run answers by right answers is safe
 pub safe_run : (contents : Contents) (m : FileMap) (words : List (List ℕ)) (schedule file : List ℕ) (t : Seen) (accepted told : Bool) (text : List ℕ) → contents ≡ Some m → IsRun words schedule file → AreRightFrom 0 t → accepted ≡ told → IfSome contents (λ n. IsAnswer n schedule file t accepted text) → IsSafeRun m words t told

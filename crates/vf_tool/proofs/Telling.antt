@@ -19,10 +19,11 @@ use Rattle.vf_snapshot.specs.Holdings.{Holdings}
 use Rattle.vf_snapshot.specs.Paths.{normal}
 use Rattle.vf_preproc.specs.UnitText.{Library}
 use Rattle.vf_expand.proofs.Telling.{told}
-use Rattle.vf_tool.specs.Readings.{reading_of}
+use Rattle.vf_tool.specs.Readings.{ReadsAs}
 use Rattle.vf_tool.specs.Verdict.{Judged, JudgedBy}
 use Rattle.vf_tool.specs.Words.{IsRun}
 use Rattle.vf_tool.specs.Loaded.{IsSchedule, HasSchedule, HasNoSchedule}
+use Rattle.vf_tool.proofs.Readable.{reads_one}
 use Rattle.vf_tool.specs.Run.{IsAnswer, Decides, is_accepted, status_of}
 
 -- words are a run of one schedule and one file
@@ -42,24 +43,24 @@ both_ways core core2 refusal t u same p q right right2 =
     let differ : Ok tt ≡ Err refusal = one.0 in cc
 
 -- a file reads as one thing
-one_core : (library : Library) (file : List ℕ) (core core2 : Core) → reading_of library file ≡ Some (Ok core) → reading_of library file ≡ Some (Ok core2) → core ≡ core2
-one_core library file core core2 p q = let both : Some (Ok core) ≡ Some (Ok core2) = sym p ∙ q in cc
+one_core : (held : Holdings) (library : Library) (file : List ℕ) (core core2 : Core) → ReadsAs held library file (Ok core) → ReadsAs held library file (Ok core2) → core ≡ core2
+one_core held library file core core2 p q = let both : Ok core ≡ Ok core2 = reads_one held library file (Ok core) (Ok core2) p q in cc
 
-not_both : (library : Library) (file : List ℕ) (core : Core) (refusal : Refusal) → reading_of library file ≡ Some (Ok core) → reading_of library file ≡ Some (Err refusal) → ⊥
-not_both library file core refusal p q = let both : Some (Ok core) ≡ Some (Err refusal) = sym p ∙ q in cc
+not_both : (held : Holdings) (library : Library) (file : List ℕ) (core : Core) (refusal : Refusal) → ReadsAs held library file (Ok core) → ReadsAs held library file (Err refusal) → ⊥
+not_both held library file core refusal p q = let both : Ok core ≡ Err refusal = reads_one held library file (Ok core) (Err refusal) p q in cc
 
 -- one verdict by right answers
-one_verdict : (library : Library) (file : List ℕ) (t u : Seen) (v w : Verdict) → AreRightFrom 0 t → AreRightFrom 0 u → Judged library file nothing_seen t v → Judged library file nothing_seen u w → is_accepted v ≡ is_accepted w
-one_verdict library file t u (Accepted core) (Accepted core2) r q a b = refl
-one_verdict library file t u (Refused x) (Refused y) r q a b = refl
-one_verdict library file t u (Accepted core) (Refused y) r q a (inl b) = absurd (both_ways core b.core y t u (one_core library file core b.core a.reads b.reads) a.follows b.follows r q)
-one_verdict library file t u (Accepted core) (Refused y) r q a (inr b) = absurd (not_both library file core y a.reads b.reads)
-one_verdict library file t u (Refused x) (Accepted core) r q (inl a) b = absurd (both_ways core a.core x u t (one_core library file core a.core b.reads a.reads) b.follows a.follows q r)
-one_verdict library file t u (Refused x) (Accepted core) r q (inr a) b = absurd (not_both library file core x b.reads a.reads)
+one_verdict : (held : Holdings) (library : Library) (file : List ℕ) (t u : Seen) (v w : Verdict) → AreRightFrom 0 t → AreRightFrom 0 u → Judged held library file nothing_seen t v → Judged held library file nothing_seen u w → is_accepted v ≡ is_accepted w
+one_verdict held library file t u (Accepted core) (Accepted core2) r q a b = refl
+one_verdict held library file t u (Refused x) (Refused y) r q a b = refl
+one_verdict held library file t u (Accepted core) (Refused y) r q a (inl b) = absurd (both_ways core b.core y t u (one_core held library file core b.core a.reads b.reads) a.follows b.follows r q)
+one_verdict held library file t u (Accepted core) (Refused y) r q a (inr b) = absurd (not_both held library file core y a.reads b.reads)
+one_verdict held library file t u (Refused x) (Accepted core) r q (inl a) b = absurd (both_ways core a.core x u t (one_core held library file core a.core b.reads a.reads) b.follows a.follows q r)
+one_verdict held library file t u (Refused x) (Accepted core) r q (inr a) b = absurd (not_both held library file core x b.reads a.reads)
 
 -- one verdict by what is held of the files
 one_held : (held : Holdings) (file : List ℕ) (t u : Seen) (v w : Verdict) → AreRightFrom 0 t → AreRightFrom 0 u → JudgedBy held file nothing_seen t v → JudgedBy held file nothing_seen u w → is_accepted v ≡ is_accepted w
-one_held held file t u v w r q a b = let l = told held in one_verdict l.0 file t u v w r q (a l.0 l.1) (b l.0 l.1)
+one_held held file t u v w r q a b = let l = told held in one_verdict held l.0 file t u v w r q (a l.0 l.1) (b l.0 l.1)
 
 -- a told answer decides
 pub decides : (contents : Contents) (m : FileMap) (s f schedule file : List ℕ) (t : Seen) (accepted : Bool) (text : List ℕ) → contents ≡ Some m → f ≡ file → AreRightFrom 0 t → IfSome contents (λ n. IsAnswer n s f t accepted text) → Decides m file (status_of accepted)

@@ -1,5 +1,5 @@
 -- What a file reads as: the core of its unit, or its first refusal.
-use Rattle.std.specs.Prelude.{ℕ, List, slice_get, Option, Some, None, Result, Ok, Err}
+use Rattle.std.specs.Prelude.{◌≡◌, ℕ, List, slice_get, Option, Some, None, Result, Ok, Err}
 use Rattle.vf_base.specs.declared.place.Place.{Place}
 use Rattle.vf_base.specs.declared.rule.Rule.{Rule}
 use Rattle.vf_base.specs.declared.rule.Rule.TheVariants.{Syntax, Depth, Unsupported}
@@ -11,6 +11,8 @@ use Rattle.vf_snapshot.specs.Holdings.{Holdings}
 use Rattle.vf_preproc.specs.Directives.{Fault, Refused}
 use Rattle.vf_preproc.specs.UnitText.{Library, Text_of_unit}
 use Rattle.vf_expand.specs.Wholes.{text_of_unit}
+use Rattle.vf_expand.specs.declared.whole.UnitTokens.{UnitTokens}
+use Rattle.vf_declared.specs.declared.scope.Scope.{Scope}
 use Rattle.vf_syntax.specs.declared.item.Item.{Item}
 use Rattle.vf_cursor.specs.declared.fault.Fault.{Fault as ReadFault}
 use Rattle.vf_cursor.specs.declared.fault.Fault.TheVariants as read_faults
@@ -21,6 +23,9 @@ use Rattle.vf_parse_c.specs.Faults.{place_at}
 use Rattle.vf_parse_c.specs.Unsupported.{first_unsupported}
 use Rattle.vf_parse.specs.Wholes.{whole_at}
 use Rattle.vf_tree.specs.declared.unit.Core.{Core}
+use Rattle.vf_resolve.specs.declared.files.Files.{Files}
+use Rattle.vf_resolve.specs.UnitFiles.{files_of}
+use Rattle.vf_phases.specs.Phases.{IsRefusedInPhases, PassesPhases}
 use Rattle.vf_first.specs.FirstForm.{first_form}
 use Rattle.vf_tool.specs.declared.reading.Reading.{Reading}
 use Rattle.vf_tool.specs.declared.reading.Reading.TheVariants as readings
@@ -57,24 +62,33 @@ abbrev pub core_or : ℕ → Option Core → Result Core Refusal
 core_or file (Some core) = Ok core
 core_or file None = Err (unsupported file)
 
--- the core of items that are of the first form
-abbrev pub core_in : List ℕ → ℕ → Result (List Item) Refusal → Result Core Refusal
-core_in path file (Ok items) = core_or file (first_form path file items)
-core_in path file (Err refusal) = Err refusal
+-- what expanding gave of the text of a unit
+abbrev pub tokens_of : Text_of_unit → UnitTokens
+tokens_of unit = record { tokens = unit.tokens; headers = unit.headers; includes = unit.includes; «end» = unit.end_of_file }
 
--- the core of a unit of the file at a path, or its first refusal
-abbrev pub core_of : List ℕ → Text_of_unit → Result Core Refusal
-core_of path unit = core_in path unit.end_of_file.file (items_of unit)
+-- the files of a unit, by the paths that are held
+abbrev pub files_by : Holdings → Text_of_unit → Files
+files_by held unit = files_of (tokens_of unit) held
 
--- what the text of a file reads as; nothing where the file is not there
-abbrev pub read_of : List ℕ → Result Text_of_unit Fault → Option (Result Core Refusal)
-read_of path (Ok unit) = Some (core_of path unit)
-read_of path (Err (Refused rule place)) = Some (Err (refusal_at rule place))
-read_of path (Err fault) = None
+-- the items of a unit read as the refusal in the first phase that refuses them, and else as their core, where they are of the first form
+pub data ItemsRead (held : Holdings) (path : List ℕ) (unit : Text_of_unit) (items : List Item) : Result Core Refusal → Type 0 where
+  stops : {refusal : Refusal} → IsRefusedInPhases (files_by held unit) items refusal → ItemsRead held path unit items (Err refusal)
+  passes : {scope : Scope} → PassesPhases (files_by held unit) items scope → ItemsRead held path unit items (core_or unit.end_of_file.file (first_form path unit.end_of_file.file items))
 
--- what the file at a path reads as, by what a library tells of the files: the core of its unit, or its first refusal; nothing where the file is not there
-abbrev pub reading_of : Library → List ℕ → Option (Result Core Refusal)
-reading_of library path = read_of path (text_of_unit library path)
+-- a unit reads as its items do, or as the refusal where reading them stops
+abbrev pub UnitReads : Holdings → List ℕ → Text_of_unit → Result (List Item) Refusal → Result Core Refusal → Type 0
+UnitReads held path unit (Ok items) r = ItemsRead held path unit items r
+UnitReads held path unit (Err refusal) r = r ≡ Err refusal
+
+-- what the text of a file reads as; as nothing where the file is not there
+abbrev pub TextReads : Holdings → List ℕ → Result Text_of_unit Fault → Result Core Refusal → Type 0
+TextReads held path (Ok unit) r = UnitReads held path unit (items_of unit) r
+TextReads held path (Err (Refused rule place)) r = r ≡ Err (refusal_at rule place)
+TextReads held path (Err fault) r = ⊥
+
+-- the file at a path reads as the core of its unit, or as its first refusal, by what a library tells of the files and the paths that are held; as nothing where the file is not there
+abbrev pub ReadsAs : Holdings → Library → List ℕ → Result Core Refusal → Type 0
+ReadsAs held library path r = TextReads held path (text_of_unit library path) r
 
 -- what a fault of the parser reads as, but for want of memory
 abbrev pub refused : ParseFault → Option (Result Core Refusal)

@@ -8,15 +8,16 @@ ghost use Rattle.vf_preproc.specs.UnitText.{Library};
 ghost use Rattle.vf_preproc.specs.Units.{Tells};
 ghost use Rattle.vf_expand.specs.Worlds.{world, Reads};
 ghost use Rattle.vf_expand.specs.Wholes.{text_of};
-ghost use Rattle.vf_tool.specs.Readings.{refusal_at, unsupported, refused, core_or, core_of, reading_of, result_of};
+ghost use Rattle.vf_tool.specs.Readings.{ItemsRead, ReadsAs, UnitReads, core_or, items_of, refusal_at, refused, result_of, unsupported};
 ghost use Rattle.vf_first.specs.FirstForm.{first_form};
 
 use crate::status::Stop;
 use std::alloc::Global;
-use vf_base::{Files, Memory, Place, Refusal, Rule, Shown};
+use vf_base::{Files, Memory, Place, Refusal, Rule, RuleFault, Shown};
 use vf_expand::{UnitTokens, expand};
 use vf_first::first_form;
 use vf_parse_c::fault::ParseFault;
+use vf_phases::check_names;
 use vf_preproc::ExpandFault;
 use vf_snapshot::Snapshot;
 use vf_syntax::item::Unit;
@@ -81,12 +82,36 @@ fn refused(fault: ParseFault) -> Result<Reading, Memory>
     }
 }
 
+/// The core of a unit that passes the phases of names, of fixpoints and of order, or its refusal in the first of them that
+/// refuses it.
+#[tactic(auto, using(crate::proofs::Phased::passed, crate::proofs::Phased::stopped))]
+fn read_phased(
+    alloc: Global,
+    snapshot: &Snapshot,
+    path: &str,
+    tokens: &UnitTokens,
+    unit: &Unit,
+) -> Result<Reading, Memory>
+    ensures { IfOk result (λ r. ItemsRead snapshot.now path.now (text_of tokens.now) unit.now.items (result_of r)) }
+{
+    match check_names(alloc, tokens, snapshot, unit) {
+        Ok(_) => read_items(alloc, path, tokens.end.file, unit),
+        Err(RuleFault::Refused(refusal)) => Ok(Reading::Refused(refusal)),
+        Err(RuleFault::Memory) => Err(Memory),
+    }
+}
+
 /// The core of a unit, or its first refusal.
-fn read_unit(alloc: Global, path: &str, unit: &UnitTokens) -> Result<Reading, Memory>
-    ensures { IfOk result (λ r. result_of r ≡ core_of path.now (text_of unit.now)) }
+fn read_unit(
+    alloc: Global,
+    snapshot: &Snapshot,
+    path: &str,
+    unit: &UnitTokens,
+) -> Result<Reading, Memory>
+    ensures { IfOk result (λ r. UnitReads snapshot.now path.now (text_of unit.now) (items_of (text_of unit.now)) (result_of r)) }
 {
     match parse(alloc, unit) {
-        Ok(read) => read_items(alloc, path, unit.end.file, &read),
+        Ok(read) => read_phased(alloc, snapshot, path, unit, &read),
         Err(fault) => refused(fault),
     }
 }
@@ -98,7 +123,7 @@ pub fn read_file<F: Files>(
     files: &mut F,
     path: &str,
 ) -> Result<Reading, Stop>
-    ensures read { IfOk result (λ r. (library : Library) → Tells library snapshot.new → reading_of library path.now ≡ Some (result_of r)) }
+    ensures read { IfOk result (λ r. (library : Library) → Tells library snapshot.new → ReadsAs snapshot.new library path.now (result_of r)) }
     ensures missing { IsErrOf result Stop.Missing → (number : ℕ) × IsHeldAt snapshot.new path.now number known.Missing }
     ensures read_fault { IsErrOf result Stop.ReadFault → Rose (F.failures files.old) (F.failures files.new) }
     ensures readable { IsErrOf result Stop.Unreadable → ⊥ }
@@ -107,7 +132,7 @@ pub fn read_file<F: Files>(
         (world snapshot.new (F.contents files.new) (F.failures files.new) (F.absences files.new) (F.put_failures files.new)) }
 {
     match expand(alloc, snapshot, files, path) {
-        Ok(unit) => match read_unit(alloc, path, &unit) {
+        Ok(unit) => match read_unit(alloc, snapshot, path, &unit) {
             Ok(reading) => Ok(reading),
             Err(_) => Err(Stop::Memory),
         },
