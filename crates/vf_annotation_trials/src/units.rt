@@ -10,7 +10,7 @@ use vf_resolve::{Files, resolve};
 use vf_syntax::item::Unit;
 
 /// The place behind the texts here.
-const END: Place = Place {
+pub const END: Place = Place {
     file: 0,
     line: 99,
     column: 1,
@@ -24,7 +24,7 @@ enum Answer {
 }
 
 /// A short text.
-fn parsed(alloc: Global, text: &str) -> Result<Unit, ParseFault> {
+pub fn parsed(alloc: Global, text: &str) -> Result<Unit, ParseFault> {
     if text.len() > 1500 {
         return Err(ParseFault::Memory);
     }
@@ -35,7 +35,7 @@ fn parsed(alloc: Global, text: &str) -> Result<Unit, ParseFault> {
 }
 
 /// The files of a unit of one file.
-fn one_file(alloc: Global) -> Files {
+pub fn one_file(alloc: Global) -> Files {
     Files {
         own: 0,
         headers: Sequence::new(alloc),

@@ -1,4 +1,5 @@
 -- What annotations declare, or where they are refused: each by the definition of its form.
+use Rattle.std.specs.Prelude.{true}
 use Rattle.vf_declared.specs.declared.scope.Scope.{Scope}
 use Rattle.vf_syntax.specs.declared.item.GhostForm.{GhostForm}
 use Rattle.vf_syntax.specs.declared.item.GhostForm.TheVariants as forms
@@ -27,6 +28,6 @@ FormComes d (forms.PredicateConstructor n fs gs a) s = ConstructorComes n fs gs 
 FormComes d (forms.LemmaPrototype n ns gs c) s = PrototypeComes n ns gs c s
 FormComes d (forms.Lemma n ns gs c b) s = DefinitionComes n ns gs c b s
 
--- what the annotations of a unit declare in which these datatypes stand: a contract, an invariant, a ghost command in the body of a function, an item
+-- what the annotations of a unit declare in which these datatypes stand: a contract, an invariant, a ghost command in the body of a function, an item; a function with its body that has no contract takes that of its prototype
 abbrev pub meanings : Stated → Meanings
-meanings d = record { contract = λ o c s. OwnedComes o c s; invariant = λ f i s. InvariantComes i s; command = λ c s. CommandComes around_statements c s; item = λ x s. FormComes d x.form s }
+meanings d = record { contract = λ o c s. OwnedComes o c s; invariant = λ f i s. InvariantComes i s; command = λ c s. CommandComes around_statements c s; item = λ x s. FormComes d x.form s; takes = true }

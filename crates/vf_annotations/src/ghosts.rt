@@ -24,6 +24,10 @@ impl Annotations for Ghosts {
 
     ghost meanings = { λ g. meanings g.stated };
 
+    fn takes_contracts(&self) -> bool {
+        true
+    }
+
     fn contract(
         &self,
         scope: &mut Scope,

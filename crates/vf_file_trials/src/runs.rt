@@ -234,6 +234,24 @@ fn readings(rt: HostRuntime) -> Result<(), Fail> {
         ),
         ("struct s;", "", Status::Refused, OTHER),
         (
+            "int main() { return 7; }",
+            "",
+            Status::Refused,
+            "a.c:1:5: rule 28 contract\n",
+        ),
+        (
+            "/*@ lemma void l() { } @*/",
+            "",
+            Status::Refused,
+            "a.c:1:16: rule 28 contract\n",
+        ),
+        (
+            "#include \"h.h\"\nint main() { return 7; }",
+            "int main();\n//@ requires true;\n//@ ensures true;\n",
+            Status::Refused,
+            OTHER,
+        ),
+        (
             "int main()\n//@ requires true;\n//@ ensures true;\n{ return x; }",
             "",
             Status::Refused,

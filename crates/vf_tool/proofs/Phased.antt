@@ -16,7 +16,7 @@ use Rattle.vf_tool.specs.Readings.{ItemsRead, core_or, files_by, result_of}
 use Rattle.vf_tool.specs.Readings as readings
 
 -- items that pass read as their core, where they are of the first form
-pub passed : (held : Holdings) (path : List ℕ) (unit : Text_of_unit) (items : List Item) (scope : Scope) (r : Result Reading Memory) → IsPhased (files_by held unit) items (Ok scope) → IfOk r (λ x. result_of x ≡ core_or unit.end_of_file.file (first_form path unit.end_of_file.file items)) → IfOk r (λ x. ItemsRead held path unit items (result_of x))
+pub passed : (held : Holdings) (path : List ℕ) (unit : Text_of_unit) (items : List Item) (scope : Scope) (r : Result Reading Memory) → IsPhased (files_by held unit) items (Ok scope) → IfOk r (λ x. result_of x ≡ core_or unit.end_of_file.file items (first_form path unit.end_of_file.file items)) → IfOk r (λ x. ItemsRead held path unit items (result_of x))
 passed held path unit items scope (Ok x) h e = subst (ItemsRead held path unit items) (sym e) (readings.passes h.answers)
 passed held path unit items scope (Err m) h e = tt
 

@@ -14,7 +14,7 @@ use Rattle.vf_tool.specs.Readings.{ItemsRead, ReadsAs, TextReads, UnitReads, cor
 use Rattle.vf_tool.specs.Readings as readings
 use Rattle.vf_tool.proofs.Formed.{first_is_formed}
 
-or_is_formed : (path : List ℕ) (file : ℕ) (is : List Item) (o : Option Core) (core : Core) → o ≡ first_form path file is → core_or file o ≡ Ok core → IsFormed core
+or_is_formed : (path : List ℕ) (file : ℕ) (is : List Item) (o : Option Core) (core : Core) → o ≡ first_form path file is → core_or file is o ≡ Ok core → IsFormed core
 or_is_formed path file is (Some c) core same e = first_is_formed path file is core cc
 or_is_formed path file is None core same e = absurd cc
 

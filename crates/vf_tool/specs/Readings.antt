@@ -2,7 +2,7 @@
 use Rattle.std.specs.Prelude.{◌≡◌, ℕ, List, slice_get, Option, Some, None, Result, Ok, Err}
 use Rattle.vf_base.specs.declared.place.Place.{Place}
 use Rattle.vf_base.specs.declared.rule.Rule.{Rule}
-use Rattle.vf_base.specs.declared.rule.Rule.TheVariants.{Syntax, Depth, Unsupported}
+use Rattle.vf_base.specs.declared.rule.Rule.TheVariants.{Syntax, Depth, Unsupported, Contract as ContractRule}
 use Rattle.vf_base.specs.declared.refusal.Refusal.{Refusal}
 use Rattle.vf_base.specs.declared.refusal.Shown.TheVariants.{Nothing}
 use Rattle.vf_lexer.specs.declared.token.Token.{Token}
@@ -27,6 +27,7 @@ use Rattle.vf_resolve.specs.declared.files.Files.{Files}
 use Rattle.vf_resolve.specs.UnitFiles.{files_of}
 use Rattle.vf_phases.specs.Phases.{IsRefusedInPhases, PassesPhases}
 use Rattle.vf_first.specs.FirstForm.{first_form}
+use Rattle.vf_contractless.specs.Missing.{missing_contract}
 use Rattle.vf_tool.specs.declared.reading.Reading.{Reading}
 use Rattle.vf_tool.specs.declared.reading.Reading.TheVariants as readings
 
@@ -53,14 +54,19 @@ items_unless end ts None = items_or end ts (whole_at 128 ts)
 abbrev pub items_of : Text_of_unit → Result (List Item) Refusal
 items_of unit = items_unless unit.end_of_file unit.tokens (first_unsupported unit.tokens)
 
--- the refusal of a file that is not of the first form: rule 11 at its first byte
+-- rule 11 at the first byte of a file
 abbrev pub unsupported : ℕ → Refusal
 unsupported file = refusal_at Unsupported (record { file = file; line = 1; column = 1 })
 
--- a core, where there is one
-abbrev pub core_or : ℕ → Option Core → Result Core Refusal
-core_or file (Some core) = Ok core
-core_or file None = Err (unsupported file)
+-- the refusal of a file that is not of the first form: where the first item that is checked against a contract has none, rule 28 at its name, and else rule 11 at the first byte
+abbrev pub not_formed : ℕ → Option Place → Refusal
+not_formed file (Some place) = refusal_at ContractRule place
+not_formed file None = unsupported file
+
+-- a core of items, where there is one
+abbrev pub core_or : ℕ → List Item → Option Core → Result Core Refusal
+core_or file items (Some core) = Ok core
+core_or file items None = Err (not_formed file (missing_contract items))
 
 -- what expanding gave of the text of a unit
 abbrev pub tokens_of : Text_of_unit → UnitTokens
@@ -73,7 +79,7 @@ files_by held unit = files_of (tokens_of unit) held
 -- the items of a unit read as the refusal in the first phase that refuses them, and else as their core, where they are of the first form
 pub data ItemsRead (held : Holdings) (path : List ℕ) (unit : Text_of_unit) (items : List Item) : Result Core Refusal → Type 0 where
   stops : {refusal : Refusal} → IsRefusedInPhases (files_by held unit) items refusal → ItemsRead held path unit items (Err refusal)
-  passes : {scope : Scope} → PassesPhases (files_by held unit) items scope → ItemsRead held path unit items (core_or unit.end_of_file.file (first_form path unit.end_of_file.file items))
+  passes : {scope : Scope} → PassesPhases (files_by held unit) items scope → ItemsRead held path unit items (core_or unit.end_of_file.file items (first_form path unit.end_of_file.file items))
 
 -- a unit reads as its items do, or as the refusal where reading them stops
 abbrev pub UnitReads : Holdings → List ℕ → Text_of_unit → Result (List Item) Refusal → Result Core Refusal → Type 0

@@ -8,12 +8,13 @@ ghost use Rattle.vf_preproc.specs.UnitText.{Library};
 ghost use Rattle.vf_preproc.specs.Units.{Tells};
 ghost use Rattle.vf_expand.specs.Worlds.{world, Reads};
 ghost use Rattle.vf_expand.specs.Wholes.{text_of};
-ghost use Rattle.vf_tool.specs.Readings.{ItemsRead, ReadsAs, UnitReads, core_or, items_of, refusal_at, refused, result_of, unsupported};
+ghost use Rattle.vf_tool.specs.Readings.{ItemsRead, ReadsAs, UnitReads, core_or, items_of, not_formed, refusal_at, refused, result_of, unsupported};
 ghost use Rattle.vf_first.specs.FirstForm.{first_form};
 
 use crate::status::Stop;
 use std::alloc::Global;
 use vf_base::{Files, Memory, Place, Refusal, Rule, RuleFault, Shown};
+use vf_contractless::missing_contract;
 use vf_expand::{UnitTokens, expand};
 use vf_first::first_form;
 use vf_parse_c::fault::ParseFault;
@@ -44,7 +45,7 @@ fn refusal_at(rule: Rule, place: Place) -> Refusal
     }
 }
 
-/// The refusal of a file that is not of the form whose rules there are.
+/// The refusal by rule 11 at the first byte of a file.
 fn unsupported(file: u32) -> Refusal
     ensures { result ≡ unsupported file }
 {
@@ -58,13 +59,24 @@ fn unsupported(file: u32) -> Refusal
     )
 }
 
+/// The refusal of a file that is not of the form whose rules there are, given the name of the first item that is checked
+/// against a contract, where it has none.
+fn not_formed(file: u32, missing: Option<Place>) -> Refusal
+    ensures { result ≡ not_formed file missing }
+{
+    match missing {
+        Some(place) => refusal_at(Rule::Contract, place),
+        None => unsupported(file),
+    }
+}
+
 /// The core of a unit that is of the first form.
 fn read_items(alloc: Global, path: &str, file: u32, unit: &Unit) -> Result<Reading, Memory>
-    ensures { IfOk result (λ r. result_of r ≡ core_or file (first_form path.now file unit.now.items)) }
+    ensures { IfOk result (λ r. result_of r ≡ core_or file unit.now.items (first_form path.now file unit.now.items)) }
 {
     match first_form(alloc, path, file, unit)? {
         Some(core) => Ok(Reading::Core(core)),
-        None => Ok(Reading::Refused(unsupported(file))),
+        None => Ok(Reading::Refused(not_formed(file, missing_contract(&unit.items)))),
     }
 }
 

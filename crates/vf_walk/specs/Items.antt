@@ -194,9 +194,14 @@ abbrev pub prototype_in : Option Sides → Option Locals
 prototype_in None = None
 prototype_in (Some x) = x.prototype
 
+-- a definition without a contract has that of its prototype, where such contracts are taken
+abbrev pub taken_where : Bool → List Typed → Option Locals → Scope → Walked
+taken_where true ps l s = taken_from ps l s
+taken_where false ps l s = Ok s
+
 -- the contract of the definition of the function with a number, or that of its prototype
 abbrev pub WalksContract : Meanings → WrittenSignature → CType → ℕ → Option Contract → Scope → Walked → Type 0
-WalksContract m g t k None s = Only (taken_from (listed g.parameters) (prototype_in (slice_get s.sides k)) s)
+WalksContract m g t k None s = Only (taken_where m.takes (listed g.parameters) (prototype_in (slice_get s.sides k)) s)
 WalksContract m g t k (Some c) s = m.contract (owner g t false) c s
 
 -- the body of a function that may have one or not

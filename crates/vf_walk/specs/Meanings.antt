@@ -1,5 +1,5 @@
 -- What annotations inside C text do to what is declared.
-use Rattle.std.specs.Prelude.{ℕ, Ok}
+use Rattle.std.specs.Prelude.{ℕ, Bool, false, Ok}
 use Rattle.vf_declared.specs.declared.scope.Scope.{Scope}
 use Rattle.vf_syntax.specs.declared.contract.Contract.{Contract}
 use Rattle.vf_syntax.specs.declared.contract.Invariant.{Invariant}
@@ -18,7 +18,9 @@ pub record Meanings : Type 1 where
   pub command : GhostCommandTree → Scope → Walked → Type 0
   -- a ghost item
   pub item : GhostItem → Scope → Walked → Type 0
+  -- whether a function with its body that has no contract takes that of its prototype, and so the names of its parameters
+  pub takes : Bool
 
--- annotations that declare nothing and are never refused
+-- annotations that declare nothing and are never refused, as where there are none
 abbrev pub no_meanings : Meanings
-no_meanings = record { contract = λ o c s. Only (Ok s); invariant = λ f i s. Only (Ok s); command = λ c s. Only (Ok s); item = λ i s. Only (Ok s) }
+no_meanings = record { contract = λ o c s. Only (Ok s); invariant = λ f i s. Only (Ok s); command = λ c s. Only (Ok s); item = λ i s. Only (Ok s); takes = false }

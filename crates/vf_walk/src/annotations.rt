@@ -23,9 +23,14 @@ pub struct Owner {
 pub trait Annotations {
     ghost use Rattle.vf_walk.specs.Meanings.{Meanings};
     ghost use Rattle.vf_walk.specs.Walking.{Follows};
+    ghost use Rattle.std.specs.Prelude.{◌≡◌};
 
     // what annotations may leave declared behind them
     ghost meanings: { Self → Meanings };
+
+    /// Whether a function with its body that has no contract takes that of its prototype.
+    fn takes_contracts(&self) -> bool
+        ensures { result ≡ (meanings self.now).takes };
 
     /// A contract, behind the parameters of its owner; what it leaves behind is visible in a body.
     fn contract(
@@ -62,6 +67,10 @@ impl Annotations for NoAnnotations {
     ghost use Rattle.vf_walk.specs.Meanings.{no_meanings};
 
     ghost meanings = { λ a. no_meanings };
+
+    fn takes_contracts(&self) -> bool {
+        false
+    }
 
     #[tactic(auto, using(crate::proofs::Steps::stays))]
     fn contract(

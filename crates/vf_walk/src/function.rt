@@ -2,7 +2,7 @@
 
 ghost use Rattle.std.specs.Prelude.{◌≡◌, OnOk, slice_get};
 ghost use Rattle.std.specs.Option.{option_copied};
-ghost use Rattle.vf_walk.specs.Items.{again_in, declared_as, defined_walked, function_number, head, is_main, listed, main_is_right, no_locals, owner, prototype_in, result_type, signature_of, signature_walked, taken_from, WalksBody, WalksContract, WalksDefinition, WalksDefinitionOf, WalksPrototype, WalksPrototypeOf, without_locals};
+ghost use Rattle.vf_walk.specs.Items.{again_in, declared_as, defined_walked, function_number, head, is_main, listed, main_is_right, no_locals, owner, prototype_in, result_type, signature_of, signature_walked, taken_where, WalksBody, WalksContract, WalksDefinition, WalksDefinitionOf, WalksPrototype, WalksPrototypeOf, without_locals};
 ghost use Rattle.vf_declared.specs.Writing.{with_function, with_prototype};
 ghost use Rattle.vf_typing.specs.Types.{is_int};
 ghost use Rattle.vf_walk.specs.Walking.{Follows, Gives, Optional};
@@ -233,16 +233,20 @@ fn prototype_locals(scope: &Scope, number: usize) -> Option<&Locals>
     sides.prototype.as_ref()
 }
 
-/// Gives a definition without a contract the locals of its prototype, if it has one.
+/// Gives a definition without a contract the locals of its prototype, if it has one and contracts are taken.
 #[tactic(auto, using(crate::proofs::Steps::out_of_memory))]
 fn take_prototype(
     alloc: Global,
     scope: &mut Scope,
+    takes: bool,
     parameters: &Parameters,
     number: usize,
 ) -> Result<(), RuleFault>
-    ensures { Gives result scope.new (taken_from (listed parameters.now) (prototype_in (slice_get scope.old.sides number)) scope.old) }
+    ensures { Gives result scope.new (taken_where takes (listed parameters.now) (prototype_in (slice_get scope.old.sides number)) scope.old) }
 {
+    if !takes {
+        return Ok(());
+    }
     let Some(locals) = prototype_locals(scope, number) else {
         return Ok(());
     };
@@ -268,7 +272,13 @@ fn walk_own_contract<A: Annotations>(
 {
     match contract {
         Some(contract) => annotations.contract(scope, owner(signature, given, false), contract),
-        None => take_prototype(alloc, scope, &signature.parameters, number),
+        None => take_prototype(
+            alloc,
+            scope,
+            annotations.takes_contracts(),
+            &signature.parameters,
+            number,
+        ),
     }
 }
 

@@ -13,9 +13,9 @@ use vf_base::{RuleFault, Sequence};
 use vf_declared::scope::Scope;
 use vf_syntax::item::Item;
 
-/// Walks over an item.
+/// Walks over an item: what it declares is added to the scope, or it is refused, behind which the scope is of no use.
 #[tactic(auto, using(crate::proofs::Steps::just))]
-fn walk_item<A: Annotations>(
+pub fn walk_item<A: Annotations>(
     alloc: Global,
     scope: &mut Scope,
     annotations: &A,

@@ -1,0 +1,2 @@
+pub mod AnnotatedUnits
+pub mod ExpandedUnits

@@ -1,0 +1,14 @@
+//! Functions with their bodies in steps: which functions the items of a unit make.
+//!
+//! [`lower_items`] goes over the items of a unit in the order of the text. It is given what annotations declare, and
+//! makes each function with a body where what its own item declares is declared.
+#![tactic(auto)]
+
+mod cores;
+mod function;
+mod items;
+mod parameters;
+
+pub use cores::Core;
+pub use function::lower_function;
+pub use items::lower_items;

@@ -1,0 +1,4 @@
+pub mod Named
+pub mod Trees
+pub mod Noted
+pub mod Described

@@ -1,0 +1,4 @@
+pub mod Erasure
+pub mod Walks
+pub mod WalkedUnits
+pub mod Units

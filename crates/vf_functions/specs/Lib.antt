@@ -1,0 +1,4 @@
+pub mod Definitions
+pub mod Units
+pub mod Erased
+pub mod Laws

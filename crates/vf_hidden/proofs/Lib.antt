@@ -1,0 +1,11 @@
+pub mod Lists
+pub mod Coming
+pub mod Adding
+pub mod Declarations
+pub mod Behind
+pub mod Binding
+pub mod Giving
+pub mod Heads
+pub mod Items
+pub mod LemmaItems
+pub mod Laws

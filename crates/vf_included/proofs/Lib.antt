@@ -1,0 +1,5 @@
+pub mod Files
+pub mod Numbers
+pub mod Lines
+pub mod Headers
+pub mod Units

@@ -1,0 +1,4 @@
+pub mod Same
+pub mod Leading
+pub mod Lookups
+mod Laws

@@ -1,0 +1,8 @@
+mod Forms
+mod Values
+mod Named
+mod Bodies
+mod Fixpoints
+mod Example
+mod One
+mod Misfits

@@ -1,0 +1,5 @@
+pub mod Sorted
+pub mod Fixpoints
+pub mod Laws
+pub mod Example
+pub mod Misfits
