@@ -10,6 +10,8 @@ mod bounds;
 #[cfg(test)]
 mod classes;
 #[cfg(test)]
+mod definitions;
+#[cfg(test)]
 mod ground;
 #[cfg(test)]
 mod growing;

@@ -1,0 +1,5 @@
+pub mod Testing
+pub mod Seeing
+pub mod Kept
+pub mod Following
+pub mod Determined

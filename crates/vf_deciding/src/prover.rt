@@ -1,0 +1,79 @@
+//! The prover.
+
+ghost use Rattle.std.specs.Prelude.{◌≡◌, length};
+ghost use Rattle.vf_asking.specs.Journal.{seen};
+ghost use Rattle.vf_asking.specs.Right.{AreRightFrom};
+
+use crate::deciding::decide;
+use std::marker::Model;
+use vf_asking::{Answer, AskFault, Asker, Journal};
+use vf_definitions::Definitions;
+use vf_formula::Literal;
+use vf_trail::Node;
+
+/// An asker that owns its journal and gives right answers. Contracts see it as its journal and the
+/// number of entries that the journal held when the prover was made.
+#[derive(Debug, Drop)]
+pub struct Prover {
+    journal: Journal,
+    origin: usize,
+}
+
+impl Model for Prover {
+    ghost use Rattle.vf_deciding.specs.Held.{Held};
+    ghost use Rattle.std.specs.Coded.{codes};
+    ghost use Rattle.vf_asking.specs.contracts.journal.Journal as journal_row;
+
+    ghost Value = { Held };
+
+    ghost coded = { Prim.hlevel (codes, journal_row.the_row.coded) };
+
+    ghost use Rattle.std.specs.Prelude.{◌≤◌, length};
+    ghost use Rattle.vf_asking.specs.Journal.{seen};
+    ghost use Rattle.vf_asking.specs.Right.{AreRightFrom};
+
+    ghost view = { λ p. record { journal = p.journal; origin = p.origin } };
+
+    ghost invariant = { λ p. AreRightFrom p.origin (seen p.journal) × (p.origin ≤ length p.journal.entries) };
+}
+
+impl Prover {
+    /// A prover over a journal, whose entries so far it does not answer for.
+    pub fn new(journal: Journal) -> Prover
+        ensures journal { result.journal ≡ journal }
+        ensures origin { result.origin ≡ length journal.entries }
+    {
+        let origin = journal.entries.len();
+        Prover { journal, origin }
+    }
+
+    /// Hands the journal back, with right answers in each entry that it gained.
+    pub fn finish(self) -> Journal
+        ensures journal { result ≡ self.journal }
+        ensures right { AreRightFrom self.origin (seen result) }
+    {
+        self.journal
+    }
+}
+
+impl Asker for Prover {
+    ghost journal = { λ p. p.journal };
+
+    ghost origin = { λ p. p.origin };
+
+    fn begin(&mut self, defs: &Definitions) -> Result<Node, AskFault> {
+        self.journal.begin(defs)?;
+        Ok(Node::ROOT)
+    }
+
+    fn push(&mut self, at: Node, fact: &Literal) -> Result<Node, AskFault> {
+        let node = self.journal.push(at, fact)?;
+        Ok(node)
+    }
+
+    fn ask(&mut self, at: Node, goal: &Literal) -> Result<Answer, AskFault> {
+        let answer = decide(&self.journal, at, goal)?;
+        self.journal.keep(at, goal, answer)?;
+        Ok(answer)
+    }
+}

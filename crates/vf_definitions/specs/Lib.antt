@@ -1,0 +1,4 @@
+pub mod Filled
+pub mod Kept
+pub mod Unfolded
+pub mod Laws
