@@ -1,5 +1,5 @@
 //! Trials of whole annotations and units: what fixpoints, lemmas and units declare, or where they are refused; what
-//! units become in steps; claims; and which items declare a name.
+//! units become in steps; claims; ghost expressions as terms; and which items declare a name.
 #![tactic(auto)]
 
 #[cfg(test)]
@@ -12,6 +12,8 @@ mod lemmas;
 mod names;
 #[cfg(test)]
 mod steps;
+#[cfg(test)]
+mod terms;
 #[cfg(test)]
 mod trees;
 #[cfg(test)]

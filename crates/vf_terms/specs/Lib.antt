@@ -1,0 +1,4 @@
+pub mod Settings
+pub mod Named
+pub mod Operated
+pub mod Readings

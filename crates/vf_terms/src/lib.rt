@@ -1,0 +1,18 @@
+//! Ghost expressions as terms of questions.
+//!
+//! An expression that was sorted is read once more, with what is known of unknown sorts in the end: names
+//! come to terms and identities, a `0` to the null pointer where a pointer stands beside it or is wanted,
+//! and each application and choice has the kind of its sort.
+#![tactic(auto)]
+
+mod arguments;
+mod expression;
+mod forms;
+mod named;
+mod operated;
+mod reading;
+mod setting;
+
+pub use expression::read;
+pub use reading::Reading;
+pub use setting::Setting;
