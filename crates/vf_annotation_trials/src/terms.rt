@@ -1,11 +1,13 @@
-//! Values of fixpoints, read as terms.
+//! Values of fixpoints, read as terms, and fixpoints as definitions.
 
 use crate::units::{one_file, parsed};
 use std::alloc::Global;
 use std::test::Fail;
 use vf_base::{Memory, Text};
 use vf_core::{Comparison, Operator};
-use vf_formula::{Head, Kind, Term};
+use vf_defining::definitions;
+use vf_definitions::{Body, Case, Definitions, Fixpoint};
+use vf_formula::{Head, Kind, Name, Term};
 use vf_resolve::resolve;
 use vf_sorting::{Context, sorted};
 use vf_sorts::Unknowns;
@@ -131,5 +133,77 @@ fn terms(rt: HostRuntime) -> Result<(), Fail> {
     let alloc = rt.alloc();
     assert!(rt; found(alloc, LISTS)?.same(&first(alloc)?));
     assert!(rt; found(alloc, POINTERS)?.same(&told(alloc)?));
+    Ok(())
+}
+
+/// The definitions of the fixpoints in a text.
+fn defined(alloc: Global, text: &str) -> Result<Definitions, Fail> {
+    let Ok(unit) = parsed(alloc, text) else {
+        return Err(Fail::from("not parsed"));
+    };
+    let Ok(mut scope) = resolve(alloc, one_file(alloc), &unit.items) else {
+        return Err(Fail::from("refused"));
+    };
+    let mut paths = Vec::new(alloc);
+    paths.push(Text::from_bytes(alloc, b"one.c")?)?;
+    match definitions(alloc, &mut scope, &paths, &unit.items) {
+        Ok(all) => Ok(all),
+        Err(_) => Err(Fail::from("not defined")),
+    }
+}
+
+/// Whether two kinds are the same.
+fn same_kind(one: Kind, other: Kind) -> bool {
+    matches!(
+        (one, other),
+        (Kind::Integer, Kind::Integer) | (Kind::Other, Kind::Other)
+    )
+}
+
+/// Whether a fixpoint has this kind and identity, and so many parameters.
+fn is_named(fixpoint: &Fixpoint, kind: Kind, identity: &str, parameters: usize) -> bool {
+    same_kind(fixpoint.kind, kind)
+        && fixpoint.identity.as_bytes() == identity.as_bytes()
+        && fixpoint.parameters == parameters
+}
+
+/// Whether a case is for this constructor, has so many names and returns this term.
+fn is_case(case: &Case, constructor: &str, names: usize, term: &Term) -> bool {
+    case.constructor.as_bytes() == constructor.as_bytes()
+        && case.names == names
+        && case.result.same(term)
+}
+
+/// Whether a fixpoint returns its second parameter for `nil`, and the first name of the case for `cons`.
+fn is_head(alloc: Global, fixpoint: &Fixpoint) -> bool {
+    let Body::Switches(0, cases) = &fixpoint.body else {
+        return false;
+    };
+    let [nil, cons] = cases.as_slice() else {
+        return false;
+    };
+    let second = Term::leaf(alloc, Head::Symbol(Kind::Other, Name::Numbered(1)));
+    let third = Term::leaf(alloc, Head::Symbol(Kind::Other, Name::Numbered(2)));
+    is_case(nil, "one.c#nil", 0, &second) && is_case(cons, "one.c#cons", 2, &third)
+}
+
+/// Whether a fixpoint returns a term.
+fn returns(fixpoint: &Fixpoint, term: &Term) -> bool {
+    match &fixpoint.body {
+        Body::Returns(result) => result.same(term),
+        Body::Switches(_, _) => false,
+    }
+}
+
+#[test]
+fn fixpoints_are_defined(rt: HostRuntime) -> Result<(), Fail> {
+    let alloc = rt.alloc();
+    let all = defined(alloc, LISTS)?;
+    let [one, other, last] = all.as_slice() else {
+        return Err(Fail::from("not three"));
+    };
+    assert!(rt; is_named(one, Kind::Other, "one.c#head", 2) && is_head(alloc, one));
+    assert!(rt; is_named(other, Kind::Integer, "one.c#head", 2) && is_head(alloc, other));
+    assert!(rt; is_named(last, Kind::Integer, "one.c#first", 1) && returns(last, &first(alloc)?));
     Ok(())
 }

@@ -8,7 +8,7 @@
 mod arguments;
 mod expression;
 mod forms;
-mod named;
+pub mod named;
 mod operated;
 mod reading;
 mod setting;

@@ -28,18 +28,23 @@ fn first_path(alloc: Global, paths: &[Text], files: &[u64]) -> Result<Text, Memo
     }
 }
 
-/// The identity of a name that is declared in some files.
-fn identity(setting: &Setting<'_>, files: &NumberList, name: &[u8]) -> Result<Text, Memory>
-    ensures { IfOk result (λ t. t ≡ identity_of (setting_of setting.now).paths files.now name.now) }
+/// The identity of a name that is declared in some files: the path of the first of them, a `#` and the name.
+pub fn identity(
+    alloc: Global,
+    paths: &[Text],
+    files: &NumberList,
+    name: &[u8],
+) -> Result<Text, Memory>
+    ensures { IfOk result (λ t. t ≡ identity_of paths.now files.now name.now) }
 {
-    let mut identity = first_path(setting.alloc, setting.paths, files.as_slice())?;
+    let mut identity = first_path(alloc, paths, files.as_slice())?;
     identity.push(b'#')?;
     identity.push_bytes(name)?;
     Ok(identity)
 }
 
 /// What declares a name, as it is seen from a file.
-fn declaration_seen<'a>(scope: &'a Scope, name: &[u8], from: u32) -> Option<&'a Declaration>
+pub fn declaration_seen<'a>(scope: &'a Scope, name: &[u8], from: u32) -> Option<&'a Declaration>
     ensures { option_copied result ≡ declaration_seen scope.now name.now from }
 {
     let number = scope.names.number(name)?;
@@ -78,7 +83,7 @@ fn later_head(setting: &Setting<'_>, name: &Text, from: u32) -> Result<Option<He
         Some(files) => files,
         None => &none,
     };
-    let identity = identity(setting, files, name.as_bytes())?;
+    let identity = identity(setting.alloc, setting.paths, files, name.as_bytes())?;
     Ok(Some(Head::Predicate(identity)))
 }
 
@@ -92,12 +97,22 @@ fn meant_head(
 {
     match declaration.meaning {
         Meaning::Function(_) => {
-            let identity = identity(setting, &declaration.files, name.as_bytes())?;
+            let identity = identity(
+                setting.alloc,
+                setting.paths,
+                &declaration.files,
+                name.as_bytes(),
+            )?;
             Ok(Some(Head::Function(identity)))
         }
         Meaning::FunctionType(_) => Ok(None),
         Meaning::Ghost(number) => {
-            let identity = identity(setting, &declaration.files, name.as_bytes())?;
+            let identity = identity(
+                setting.alloc,
+                setting.paths,
+                &declaration.files,
+                name.as_bytes(),
+            )?;
             Ok(ghost_head(setting.scope, identity, number))
         }
     }
@@ -171,7 +186,7 @@ fn test_head(setting: &Setting<'_>, name: &Text, from: u32) -> Result<Option<Hea
     };
     match declaration.meaning {
         Meaning::FunctionType(_) => {
-            let identity = identity(setting, &declaration.files, tested)?;
+            let identity = identity(setting.alloc, setting.paths, &declaration.files, tested)?;
             Ok(Some(Head::Claims(identity)))
         }
         _ => Ok(None),
@@ -189,7 +204,12 @@ fn applied_by(
 {
     match declaration.meaning {
         Meaning::Ghost(number) => {
-            let identity = identity(setting, &declaration.files, name.as_bytes())?;
+            let identity = identity(
+                setting.alloc,
+                setting.paths,
+                &declaration.files,
+                name.as_bytes(),
+            )?;
             Ok(applied_ghost_head(setting.scope, kind, identity, number))
         }
         _ => Ok(None),

@@ -1,0 +1,23 @@
+use Rattle.std.proofs.Common.{rules, ◌≡◌, ◌≤◌, ◌∙◌, length, Err}
+use Rattle.vf_defining.specs.Symbols.{without_locals}
+use Rattle.vf_defining.proofs.Adding.{item_fails, item_more, item_passed, items_end}
+use Rattle.vf_defining.proofs.units.definitions.Goals as goal
+
+pub returns-in_err-item_defined : goal.returns-in_err-item_defined
+returns-in_err-item_defined c =
+    let e : c.from_residual.result ≡ Err c.in_err-item_defined.field-0.0 = search rules in
+    item_fails (without_locals c.args.scope.now) (without_locals c.loop-at.scope) c.args.paths.now c.args.items.now c.loop-at.at c.in-Some.item.now _ _ _ _ c.in-Some.ensures c.loop-at.invariant.alone c.in_err-item_defined.ensures.added c.loop-at.invariant.fails e
+
+pub loop-at-preserved : goal.loop-at-preserved
+loop-at-preserved c =
+    let s = without_locals c.args.scope.now in
+    record {
+      on = item_more s (without_locals c.loop-at.scope) c.args.paths.now c.args.items.now c.loop-at.at c.in-Some.item.now _ _ c.in-Some.ensures c.loop-at.invariant.alone c.in_ok-item_defined.ensures.added c.loop-at.invariant.on;
+      fails = item_passed s c.args.items.now c.loop-at.at c.in-Some.item.now c.in-Some.ensures c.loop-at.invariant.fails;
+      alone = c.in_ok-item_defined.ensures.rest ∙ c.loop-at.invariant.alone;
+    }
+
+pub returns : goal.returns
+returns c =
+    let m : length c.args.items.now ≤ c.loop-at.at = search rules in
+    items_end (without_locals c.args.scope.now) c.args.paths.now c.args.items.now c.loop-at.at c.loop-at.all m c.loop-at.invariant.on

@@ -1,0 +1,4 @@
+pub mod Symbols
+pub mod Bodies
+pub mod Fixpoints
+pub mod Units

@@ -1,0 +1,15 @@
+//! Fixpoints of a unit as definitions of the prover.
+//!
+//! The body of a fixpoint is sorted once more, where its parameters are locals, and then read as terms over
+//! these.
+#![tactic(auto)]
+
+mod bodies;
+mod cases;
+mod fixpoints;
+mod switching;
+mod symbols;
+mod units;
+mod values;
+
+pub use units::definitions;
