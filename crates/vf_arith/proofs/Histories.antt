@@ -1,7 +1,8 @@
 -- Steps that come and go, with the distances after each.
-use Rattle.std.proofs.Common.{◌≡◌, ℕ, ◌+◌, ◌-◌, ◌*◌, ◌^◌, ◌<◌, ◌≤◌, ◌⊎◌, inl, inr, List, [], ◌∷◌, ◌++◌, length, take, Option, Some, None, refl, sym, ◌∙◌, ap, subst, arith, Bool, true, false, eqb}
+use Rattle.std.proofs.Common.{◌≡◌, ℕ, zero, suc, ◌+◌, ◌-◌, ◌*◌, ◌^◌, ◌<◌, ◌≤◌, ◌⊎◌, inl, inr, List, [], ◌∷◌, ◌++◌, length, take, Option, Some, None, refl, sym, ◌∙◌, ap, subst, arith, Bool, true, false, eqb}
 use Rattle.std.specs.Prelude.{ℤ, pos, ◌+ℤ◌, ◌≤ℤ◌, ◌==◌, cond, if◌then◌else◌, Contains}
 use Rattle.std.proofs.Math.Dec.{ltb}
+use Rattle.std.proofs.lemmas.Option.{slice_get_within}
 use Rattle.std.proofs.Math.Seq.{take-append_seam}
 use Rattle.std.proofs.lemmas.Int.{ints}
 use Rattle.std.proofs.lemmas.Bool.{cases_lt, lt-ltb, le-ltb, eqb-true, eq-eqb}
@@ -12,10 +13,12 @@ use Rattle.vf_arith.specs.declared.bounds.Step.{Step}
 use Rattle.vf_arith.specs.declared.bounds.Step.TheVariants.{Point, Bound}
 use Rattle.vf_arith.specs.declared.journal.Saved.{Saved}
 use Rattle.vf_arith.specs.declared.journal.Layer.{Layer}
+use Rattle.std.specs.Prelude.{slice_get}
 use Rattle.vf_arith.specs.Paths.{Path, path_none, HasNegativeCycle}
-use Rattle.vf_arith.specs.Steps.{points_of, bounds_of}
+use Rattle.vf_arith.specs.Steps.{points_of, bounds_of, all_but_last}
+use Rattle.vf_arith.proofs.Distances as ways
 use Rattle.vf_arith.specs.Matrices.{IsUnder, AreDistances, IsMatrix, distance, entry, lesser, over_edge}
-use Rattle.vf_arith.specs.Histories.{IsSaved, IsShortened, IsDistanceIn, IsState, AreSaved, steps_of, IsHistory, begun, continued, AreKept}
+use Rattle.vf_arith.specs.Histories.{OnlySavedShorten, HasPathUnder, IsSaved, IsShortened, IsDistanceIn, IsState, AreSaved, steps_of, IsHistory, begun, continued, AreKept}
 
 -- ---- lists
 
@@ -391,3 +394,71 @@ saved_points width saved now d e is same s m = let o = is.old s (subst (λ (l : 
 pub saved_one : (width : ℕ) (saved now : List Saved) (d e : ℕ → ℕ → Option ℤ) → AreSaved width saved d e → now ≡ saved → (s t : Saved) → Contains now s → Contains now t → s.x ≡ t.x → s.y ≡ t.y → s.distance ≡ t.distance
 saved_one width saved now d e is same s t m n a b =
     (is.old s (subst (λ (l : List Saved). Contains l s) same m)).2 ∙ ap (λ x. d x s.y) a ∙ ap (λ y. d t.x y) b ∙ sym (is.old t (subst (λ (l : List Saved). Contains l t) same n)).2
+
+-- ---- what the last step changed
+
+pub record EndsIn {X : Type 0} (xs : List X) (x : X) : Type 0 where
+  pub front : List X
+  pub is : xs ≡ front ++ x ∷ []
+
+ends_at : {X : Type 0} (xs : List X) (x : X) (n : ℕ) → n + 1 ≡ length xs → slice_get xs n ≡ Some x → EndsIn xs x
+ends_at [] x n e h = absurd (omega arith)
+ends_at (y ∷ []) x zero e h = record { front = []; is = let k : y ≡ x = cc in ap (λ z. z ∷ []) k }
+ends_at (y ∷ []) x (suc n) e h = absurd (omega arith)
+ends_at (y ∷ z ∷ zs) x zero e h = absurd (omega arith)
+ends_at (y ∷ z ∷ zs) x (suc n) e h = let r = ends_at (z ∷ zs) x n (omega arith) h in record { front = y ∷ r.front; is = ap (λ ws. y ∷ ws) r.is }
+
+pub ends_in : {X : Type 0} (xs : List X) (x : X) → slice_get xs (length xs - 1) ≡ Some x → EndsIn xs x
+ends_in xs x e = ends_at xs x (length xs - 1) (let h = slice_get_within xs (length xs - 1) x e in omega arith) e
+
+take_last : (ss : List Step) (s : Step) → take (length (ss ++ s ∷ []) - 1) (ss ++ s ∷ []) ≡ ss
+take_last ss s = let h = length_push ss s in ap (λ n. take n (ss ++ s ∷ [])) (let k : length (ss ++ s ∷ []) - 1 ≡ length ss = omega arith in k) ∙ take-append_seam ss (s ∷ [])
+
+cycle_more : (edges : List Edge) (e : Edge) → HasNegativeCycle edges → HasNegativeCycle (edges ++ e ∷ [])
+cycle_more edges e h = record { point = h.point; total = h.total; cycle = ways.more e h.cycle; below = h.below }
+
+cycle_step : (steps : List Step) (s : Step) → HasNegativeCycle (bounds_of steps) → HasNegativeCycle (bounds_of (steps ++ s ∷ []))
+cycle_step steps Point h = subst HasNegativeCycle (sym (bounds_of-append steps (Point ∷ []) ∙ append-nil (bounds_of steps))) h
+cycle_step steps (Bound e) h = subst HasNegativeCycle (sym (bounds_of-append steps (Bound e ∷ []))) (cycle_more (bounds_of steps) e h)
+
+unset : (b : Bool) → (b ≡ true → ⊥) → b ≡ false
+unset true h = absurd (h refl)
+unset false h = refl
+
+under_number : (o : Option ℤ) (c : ℤ) → IsUnder o c → (v : ℤ) × (o ≡ Some v) × (v ≤ℤ c)
+under_number None c h = absurd h
+under_number (Some v) c h = (v, refl, h)
+
+module _ (size width : ℕ) (edges : List Edge) (c : Bool) (matrix : List (Option ℤ)) (all : List Layer) (weight : ℕ) (l : Layer) (is : AreKept size width edges c matrix all) (ends : EndsIn all l) where
+  before_is : all_but_last (steps_of all) ≡ steps_of ends.front
+  before_is = ap (λ (ls : List Layer). all_but_last (steps_of ls)) ends.is ∙ ap all_but_last (steps_of-push ends.front l) ∙ take_last (steps_of ends.front) l.step
+
+  pub only_saved : (HasNegativeCycle edges → ⊥) → OnlySavedShorten (record { size = size; edges = edges; steps = steps_of all; weight = weight }) l.saved.items
+  only_saved fine = subst (λ (ss : List Step). (x y : ℕ) (k : ℤ) → x < size → y < size → (IsSaved l.saved.items x y → ⊥) → Path edges x y k → HasPathUnder (bounds_of ss) x y k) (sym before_is)
+      (λ x y k i j n h.
+      let u = under_number (distance width matrix x y) k (ways.at_most width edges (distance width matrix) now_exact (omega (arith, room)) (omega (arith, room)) h) in
+      let same : distance width matrix x y ≡ back.distances x y = still x y (omega (arith, room)) (omega (arith, room)) n in
+      record { total = u.0; path = before_exact.sound x y u.0 (omega (arith, room)) (omega (arith, room)) (sym same ∙ u.1); under = u.2 })
+    where
+      back : Popped width ends.front l (distance width matrix)
+      back = popped_kept size width edges c matrix all ends.front l is ends.is
+
+      room : size ≤ width
+      room = (within size width edges c matrix all is).0
+
+      now_exact : AreDistances width edges (distance width matrix)
+      now_exact = (matrix_of size width edges c matrix all is).exact (unset c (λ e. fine ((matrix_of size width edges c matrix all is).bad e)))
+
+      before_exact : AreDistances width (bounds_of (steps_of ends.front)) back.distances
+      before_exact = (state_of back.history).exact (unset back.cyclic (λ e. fine (subst HasNegativeCycle (sym (is.edges_are ∙ ap (λ (ls : List Layer). bounds_of (steps_of ls)) ends.is ∙ ap bounds_of (steps_of-push ends.front l))) (cycle_step (steps_of ends.front) l.step ((state_of back.history).bad e)))))
+
+      still : (x y : ℕ) → x < width → y < width → (IsSaved l.saved.items x y → ⊥) → distance width matrix x y ≡ back.distances x y
+      still x y i j n = elim (back.saved.others x y i j) [
+        | inl m ↦ absurd (n m)
+        | inr e ↦ e
+      ]
+
+-- before the first step there is nothing
+pub none_saved : (size width : ℕ) (edges : List Edge) (c : Bool) (matrix : List (Option ℤ)) (all : List Layer) (weight : ℕ) (saved : List Saved) → AreKept size width edges c matrix all → length all ≡ 0 → OnlySavedShorten (record { size = size; edges = edges; steps = steps_of all; weight = weight }) saved
+none_saved size width edges c matrix [] weight saved is e = λ x y k i j n h. absurd (let p = is.points in omega arith)
+none_saved size width edges c matrix (l ∷ ls) weight saved is e = absurd (omega arith)

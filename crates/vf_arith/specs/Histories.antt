@@ -1,11 +1,11 @@
 -- The distances that are kept aside at each step, so that it can be taken back.
-use Rattle.std.specs.Prelude.{◌≡◌, ℕ, ◌*◌, ◌<◌, ◌≤◌, ◌^◌, ◌==◌, ◌++◌, ◌⊎◌, if◌then◌else◌, Bool, false, IsTrue, IsFalse, ℤ, pos, List, [], ◌∷◌, length, map, Contains, Option, Some, None}
+use Rattle.std.specs.Prelude.{◌≡◌, ℕ, ◌*◌, ◌<◌, ◌≤◌, ◌^◌, ◌==◌, ◌++◌, ◌⊎◌, if◌then◌else◌, Bool, false, IsTrue, IsFalse, ℤ, pos, ◌≤ℤ◌, List, [], ◌∷◌, length, map, Contains, Option, Some, None}
 use Rattle.vf_arith.specs.declared.bounds.Edge.{Edge}
 use Rattle.vf_arith.specs.declared.bounds.Step.{Step}
 use Rattle.vf_arith.specs.declared.journal.Saved.{Saved}
 use Rattle.vf_arith.specs.declared.journal.Layer.{Layer}
-use Rattle.vf_arith.specs.Paths.{HasNegativeCycle, IsSmall}
-use Rattle.vf_arith.specs.Steps.{points_of, bounds_of}
+use Rattle.vf_arith.specs.Paths.{Path, HasNegativeCycle, IsSmall, Network}
+use Rattle.vf_arith.specs.Steps.{points_of, bounds_of, all_but_last}
 use Rattle.vf_arith.specs.Matrices.{AreDistances, distance, entry, lesser, over_edge}
 
 -- among the distances that were kept is that of two points
@@ -14,6 +14,17 @@ pub record IsSaved (saved : List Saved) (x y : ℕ) : Type 0 where
   pub found : Contains saved kept
   pub left : kept.x ≡ x
   pub right : kept.y ≡ y
+
+-- a path from x to y whose weight is at most c
+pub record HasPathUnder (edges : List Edge) (x y : ℕ) (c : ℤ) : Type 0 where
+  pub total : ℤ
+  pub path : Path edges x y total
+  pub under : total ≤ℤ c
+
+-- two points of which no distance was kept had as short a path before the last step
+abbrev pub OnlySavedShorten : Network → List Saved → Type 0
+OnlySavedShorten network saved =
+    (x y : ℕ) (c : ℤ) → x < network.size → y < network.size → (IsSaved saved x y → ⊥) → Path network.edges x y c → HasPathUnder (bounds_of (all_but_last network.steps)) x y c
 
 -- a distance of the matrix that the way over an edge shortens
 pub record IsShortened (size : ℕ) (matrix before : List (Option ℤ)) (most : ℤ) (after : List (Option ℤ)) (s : Saved) : Type 0 where

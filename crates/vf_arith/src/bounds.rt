@@ -3,8 +3,9 @@
 ghost use Rattle.std.specs.Prelude.{◌≡◌, Contains, ◌+◌, ◌-◌, ◌<◌, ◌≤◌, ◌^◌, ◌∷◌, [], ◌++◌, ◌↔◌, ◌≤ℤ◌, ℤ, pos, length, take, IsTrue, IfOk, IfSome, OnOk, OnErr, MatchOption};
 ghost use Rattle.vf_arith.specs.Paths.{Path, IsLeast, HasNegativeCycle, IsSmall};
 ghost use Rattle.vf_arith.specs.Steps.{points_of, bounds_of};
+ghost use Rattle.vf_arith.specs.Histories.{OnlySavedShorten};
 
-use crate::journal::{Layer, restore, shorten, shortened};
+use crate::journal::{Layer, Saved, restore, shorten, shortened};
 use crate::matrix::{closes_below, column, row, widened, without_edges};
 use std::alloc::Global;
 use std::marker::Model;
@@ -215,6 +216,18 @@ impl Bounds {
         ensures edges { self.now.edges ≡ bounds_of self.now.steps }
     {
         self.layers.len()
+    }
+
+    /// The distances that the last step changed, as they were before; none where there is no step. Two
+    /// points of which none is kept there are no nearer to each other than before it.
+    pub fn shortened(&self) -> &[Saved]
+        requires fine { HasNegativeCycle self.now.edges → ⊥ }
+        ensures { OnlySavedShorten self.now result.now }
+    {
+        match self.layers.last() {
+            Some(layer) => &layer.saved,
+            None => &[],
+        }
     }
 
     /// Goes back to the first steps of this number. It takes no memory.

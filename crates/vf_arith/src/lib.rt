@@ -10,3 +10,4 @@ mod journal;
 mod matrix;
 
 pub use bounds::{Bounds, Edge, MOST_POINTS, Step, is_small};
+pub use journal::Saved;

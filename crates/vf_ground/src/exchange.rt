@@ -35,14 +35,14 @@ pub enum Lack {
 }
 
 /// Whether both terms are integer terms.
-fn are_integers(nodes: &[Node], x: u32, y: u32) -> bool
+pub fn are_integers(nodes: &[Node], x: u32, y: u32) -> bool
     ensures { IsTrue result ↔ IsInteger nodes.now x × IsInteger nodes.now y }
 {
     is_integer(nodes, x) && is_integer(nodes, y)
 }
 
 /// Whether two terms are within 0 both ways.
-fn are_level(bounds: &Bounds, x: u32, y: u32) -> bool
+pub fn are_level(bounds: &Bounds, x: u32, y: u32) -> bool
     requires fine { HasNegativeCycle bounds.now.edges → ⊥ }
     requires left { x < bounds.now.size }
     requires right { y < bounds.now.size }

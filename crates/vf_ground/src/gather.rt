@@ -13,7 +13,13 @@ use vf_refute::Fact;
 use vf_table::{Node, is_zero, number_at, shift_at};
 
 /// Adds a bound and the opposite one.
-fn add_both(alloc: Global, bounds: &mut Bounds, x: u32, y: u32, most: i128) -> Result<(), Memory>
+pub fn add_both(
+    alloc: Global,
+    bounds: &mut Bounds,
+    x: u32,
+    y: u32,
+    most: i128,
+) -> Result<(), Memory>
     requires left { x < bounds.old.size }
     requires right { y < bounds.old.size }
     requires small { IsSmall (2 ^ 100) most }
@@ -186,7 +192,7 @@ fn add_as_sum(alloc: Global, nodes: &[Node], bounds: &mut Bounds, a: u32) -> Res
 }
 
 /// Adds the bounds that a term has of itself.
-fn add_term(alloc: Global, nodes: &[Node], bounds: &mut Bounds, a: u32) -> Result<(), Memory>
+pub fn add_term(alloc: Global, nodes: &[Node], bounds: &mut Bounds, a: u32) -> Result<(), Memory>
     requires size { bounds.old.size ≡ length nodes.now }
     requires few { length nodes.now ≤ 2 ^ 24 }
     requires parts { PartsAreBelow nodes.now (length nodes.now) }

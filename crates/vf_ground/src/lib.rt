@@ -9,6 +9,7 @@ mod fine;
 mod gather;
 mod verdict;
 
-pub use exchange::{Lack, lack_at};
+pub use exchange::{Lack, are_integers, are_level, is_near, lack_at};
 pub use fine::{are_fine, numbers_are_small};
+pub use gather::{add_both, add_term, add_terms};
 pub use verdict::{Closed, close, contradicts, is_clash, is_refuted};

@@ -1,6 +1,7 @@
 -- Classes that grow step by step and go back.
 use Rattle.std.proofs.Common.{◌≡◌, ℕ, zero, suc, ◌+◌, ◌-◌, ◌^◌, ◌<◌, ◌≤◌, ◌⊎◌, inl, inr, List, [], ◌∷◌, ◌++◌, length, take, get_or, set, slice_index, slice_get, Some, refl, sym, ◌∙◌, ap, subst, arith, All}
 use Rattle.std.specs.Prelude.{Contains, slice_index_or}
+use Rattle.std.proofs.lemmas.Option.{slice_get_within}
 use Rattle.std.proofs.Math.Seq.{take-append_seam, get_or-append_seam}
 use Rattle.std.proofs.Math.Decide.{ℕ_discrete}
 use Rattle.std.proofs.lemmas.Bool.{cases_lt}
@@ -15,8 +16,8 @@ use Rattle.vf_growing.specs.declared.journal.Step.{Step}
 use Rattle.vf_growing.specs.declared.journal.Step.TheVariants.{Term, Merge}
 use Rattle.vf_growing.specs.declared.journal.Moved.{Moved}
 use Rattle.vf_growing.specs.declared.journal.Layer.{Layer}
-use Rattle.vf_growing.specs.Steps.{terms_of, merges_of, IsTermOf}
-use Rattle.vf_growing.specs.Histories.{AreMoved, IsState, steps_of, IsHistory, begun, grown, joined, AreKept}
+use Rattle.vf_growing.specs.Steps.{terms_of, merges_of, IsTermOf, all_but_last}
+use Rattle.vf_growing.specs.Histories.{IsMoved, AreMoved, OnlyMovedMeet, IsState, steps_of, IsHistory, begun, grown, joined, AreKept}
 
 -- ---- lists
 
@@ -313,6 +314,56 @@ kept_back layers l nodes merged classes back terms pairs p same restored et ep =
     kept_of (subst (λ n. IsHistory layers (take n nodes) (take pairs merged) (take n back)) (sym et)
     (subst (λ n. IsHistory layers (take (length nodes - terms_of (l.step ∷ [])) nodes) (take n merged) (take (length nodes - terms_of (l.step ∷ [])) back)) (sym ep)
     (history_back layers l nodes merged classes back p same restored)))
+
+-- ---- what the last step moved
+
+pub record EndsIn {X : Type 0} (xs : List X) (x : X) : Type 0 where
+  pub front : List X
+  pub is : xs ≡ front ++ x ∷ []
+
+ends_at : {X : Type 0} (xs : List X) (x : X) (n : ℕ) → n + 1 ≡ length xs → slice_get xs n ≡ Some x → EndsIn xs x
+ends_at [] x n e h = absurd (omega arith)
+ends_at (y ∷ []) x zero e h = record { front = []; is = let k : y ≡ x = cc in ap (λ z. z ∷ []) k }
+ends_at (y ∷ []) x (suc n) e h = absurd (omega arith)
+ends_at (y ∷ z ∷ zs) x zero e h = absurd (omega arith)
+ends_at (y ∷ z ∷ zs) x (suc n) e h = let r = ends_at (z ∷ zs) x n (omega arith) h in record { front = y ∷ r.front; is = ap (λ ws. y ∷ ws) r.is }
+
+pub ends_in : {X : Type 0} (xs : List X) (x : X) → slice_get xs (length xs - 1) ≡ Some x → EndsIn xs x
+ends_in xs x e = ends_at xs x (length xs - 1) (let h = slice_get_within xs (length xs - 1) x e in omega arith) e
+
+module _ (all : List Layer) (nodes : List Node) (merged : List (ℕ × ℕ)) (classes : List ℕ) (weight : ℕ) (l : Layer) (is : AreKept all nodes merged classes) (ends : EndsIn all l) where
+  before_is : all_but_last (steps_of all) ≡ steps_of ends.front
+  before_is = ap (λ (ls : List Layer). all_but_last (steps_of ls)) ends.is ∙ ap all_but_last (steps_of-push ends.front l)
+      ∙ take_front (steps_of ends.front) l.step (length (steps_of ends.front ++ l.step ∷ []) - 1) (let h = length_push (steps_of ends.front) l.step in omega arith)
+
+  back : Popped ends.front l nodes merged classes
+  back = popped_of all nodes merged classes ends.front l is ends.is
+
+  terms_before_is : take (terms_of (steps_of ends.front)) nodes ≡ back.terms
+  terms_before_is = let n = is.terms in let m = ap (λ (ls : List Layer). terms_of (steps_of ls)) ends.is in let k = terms_push ends.front l in
+      ap (λ c. take c nodes) (let h : terms_of (steps_of ends.front) ≡ length nodes - terms_of (l.step ∷ []) = omega arith in h) ∙ back.terms_back
+
+  pub only_moved : OnlyMovedMeet (record { nodes = nodes; merged = merged; steps = steps_of all; weight = weight }) l.moved.items
+  only_moved = subst (λ (ss : List Step). (x y : ℕ) → x < terms_of ss → y < terms_of ss → (IsMoved l.moved.items x → ⊥) → (IsMoved l.moved.items y → ⊥) → Congruent nodes (WereMerged merged) x y → Congruent (take (terms_of ss) nodes) (WereMerged (merges_of ss)) x y) (sym before_is)
+      (λ x y i j p q h.
+      let old = (state_of back.history).least in
+      let long : length back.before ≡ terms_of (steps_of ends.front) = sym old.long ∙ terms_are back.history in
+      let u : slice_index classes x ≡ slice_index back.before x = still x (omega arith) p in
+      let w : slice_index classes y ≡ slice_index back.before y = still y (omega arith) q in
+      subst (λ (ns : List Node). Congruent ns (WereMerged (merges_of (steps_of ends.front))) x y) (sym terms_before_is)
+      (subst (λ (ms : List (ℕ × ℕ)). Congruent back.terms (WereMerged ms) x y) (merges_are back.history)
+      (old.sound x y (record { left = omega arith; right = omega arith; one = sym u ∙ is.least.complete x y h ∙ w }))))
+    where
+      still : (k : ℕ) → k < length back.before → (IsMoved l.moved.items k → ⊥) → slice_index classes k ≡ slice_index back.before k
+      still k i n = elim (back.moved.others k i) [
+        | inl m ↦ absurd (n m)
+        | inr e ↦ e
+      ]
+
+-- before the first step there is nothing
+pub none_moved : (all : List Layer) (nodes : List Node) (merged : List (ℕ × ℕ)) (weight : ℕ) (moved : List Moved) → length all ≡ 0 → OnlyMovedMeet (record { nodes = nodes; merged = merged; steps = steps_of all; weight = weight }) moved
+none_moved [] nodes merged weight moved e = λ x y i j p q h. absurd (omega arith)
+none_moved (l ∷ ls) nodes merged weight moved e = absurd (omega arith)
 
 -- ---- terms that are put back one by one
 

@@ -1,18 +1,25 @@
 -- The classes that are kept aside at each step, so that it can be taken back.
-use Rattle.std.specs.Prelude.{◌≡◌, ℕ, ◌<◌, ◌++◌, ◌⊎◌, List, [], ◌∷◌, length, map, Contains, slice_index}
+use Rattle.std.specs.Prelude.{◌≡◌, ℕ, ◌<◌, ◌++◌, ◌⊎◌, List, [], ◌∷◌, length, map, take, Contains, slice_index}
 use Rattle.vf_table.specs.declared.node.Node.{Node}
+use Rattle.vf_congruence.specs.Congruence.{Congruent, WereMerged}
 use Rattle.vf_congruence.specs.Meeting.{IsLeast}
 use Rattle.vf_growing.specs.declared.journal.Step.{Step}
 use Rattle.vf_growing.specs.declared.journal.Step.TheVariants.{Term, Merge}
 use Rattle.vf_growing.specs.declared.journal.Moved.{Moved}
 use Rattle.vf_growing.specs.declared.journal.Layer.{Layer}
-use Rattle.vf_growing.specs.Steps.{terms_of, merges_of}
+use Rattle.vf_growing.specs.Steps.{terms_of, merges_of, all_but_last, Growth}
 
 -- among the classes that were kept is that of a term
 pub record IsMoved (moved : List Moved) (term : ℕ) : Type 0 where
   pub kept : Moved
   pub found : Contains moved kept
   pub is : kept.term ≡ term
+
+-- terms that the last step did not move are equal after it only where they were equal before it
+abbrev pub OnlyMovedMeet : Growth → List Moved → Type 0
+OnlyMovedMeet growth moved =
+    (x y : ℕ) → x < terms_of (all_but_last growth.steps) → y < terms_of (all_but_last growth.steps) → (IsMoved moved x → ⊥) → (IsMoved moved y → ⊥) →
+    Congruent growth.nodes (WereMerged growth.merged) x y → Congruent (take (terms_of (all_but_last growth.steps)) growth.nodes) (WereMerged (merges_of (all_but_last growth.steps))) x y
 
 -- the classes that were kept are those before of all terms that stand in another after
 pub record AreMoved (before : List ℕ) (moved : List Moved) (after : List ℕ) : Type 0 where

@@ -1,5 +1,5 @@
 -- Steps in which terms and equalities came about, and what there is after some of them.
-use Rattle.std.specs.Prelude.{◌≡◌, ℕ, ◌+◌, List, [], ◌∷◌, Some, slice_get}
+use Rattle.std.specs.Prelude.{◌≡◌, ℕ, ◌+◌, ◌-◌, List, [], ◌∷◌, length, take, Some, slice_get}
 use Rattle.vf_table.specs.declared.node.Node.{Node}
 use Rattle.vf_log.specs.Copies.{IsCopy}
 use Rattle.vf_growing.specs.declared.journal.Step.{Step}
@@ -16,6 +16,10 @@ abbrev pub merges_of : List Step → List (ℕ × ℕ)
 merges_of [] = []
 merges_of (Term ∷ steps) = merges_of steps
 merges_of (Merge a b ∷ steps) = (a, b) ∷ merges_of steps
+
+-- all steps but the last
+abbrev pub all_but_last : List Step → List Step
+all_but_last steps = take (length steps - 1) steps
 
 -- a term of the table has the head and the parts of a node
 pub record IsTermOf (nodes : List Node) (term : ℕ) (node : Node) : Type 0 where

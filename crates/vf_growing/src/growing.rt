@@ -7,8 +7,9 @@ ghost use Rattle.vf_log.specs.Derivations.{IsContinued};
 ghost use Rattle.vf_congruence.specs.Congruence.{Congruent, WereMerged};
 ghost use Rattle.vf_congruence.specs.Explained.{AreReasons};
 ghost use Rattle.vf_growing.specs.Steps.{terms_of, merges_of, IsTermOf};
+ghost use Rattle.vf_growing.specs.Histories.{OnlyMovedMeet};
 
-use crate::journal::{Layer, Step, merges_before, moved_between, restore, terms_before};
+use crate::journal::{Layer, Moved, Step, merges_before, moved_between, restore, terms_before};
 use std::alloc::Global;
 use std::marker::Model;
 use vf_base::Memory;
@@ -160,6 +161,18 @@ impl GrowingClasses {
         ensures merged { self.now.merged ≡ merges_of self.now.steps }
     {
         self.layers.len()
+    }
+
+    /// The terms that the last step moved to other classes, each with the class in which it was before;
+    /// none where there is no step. Terms that it left where they were are equal only where they were
+    /// equal before it.
+    pub fn moved(&self) -> &[Moved]
+        ensures { OnlyMovedMeet self.now result.now }
+    {
+        match self.layers.last() {
+            Some(layer) => &layer.moved,
+            None => &[],
+        }
     }
 
     /// Goes back to the first steps of this number. It takes no memory.

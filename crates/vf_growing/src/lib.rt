@@ -9,4 +9,4 @@ mod growing;
 mod journal;
 
 pub use growing::GrowingClasses;
-pub use journal::Step;
+pub use journal::{Moved, Step};

@@ -18,7 +18,7 @@ mod verdict;
 pub use closing::close;
 pub use laws::{next_is_right, right_is_sound, settled_is_enough, unfolding_ends};
 pub use numbering::{MOST_TERMS, all_terms, place};
-pub use plain::{are_plain, is_plain};
+pub use plain::{are_plain, is_plain, is_plain_literal};
 pub use question::Question;
 pub use unfolding::Unfolding;
 pub use verdict::refuted;

@@ -78,7 +78,7 @@ fn is_plain_bound(p: &Term, n: &Term, c: i128) -> bool
 }
 
 /// Whether a literal is between plain terms, and a bound between integer terms with a small number.
-fn is_plain_literal(literal: &Literal) -> bool
+pub fn is_plain_literal(literal: &Literal) -> bool
     ensures { IsTrue result ↔ IsPlainLiteral (shown_literal literal.now) }
 {
     match literal {
