@@ -8,11 +8,11 @@ use Rattle.vf_question.specs.Numbered.{with_term, with_all, with_literals, terms
 use Rattle.vf_question.proofs.Has.{Has, AreOnce, contains_has, has_contains, term_keeps, term_has, term_only, term_once}
 
 -- ---- several terms
-all_keep : (ss ts : List Term) (u : Term) → Has ts u → Has (with_all ss ts) u
+pub all_keep : (ss ts : List Term) (u : Term) → Has ts u → Has (with_all ss ts) u
 all_keep [] ts u k = k
 all_keep (s ∷ ss) ts u k = all_keep ss (with_term s ts) u (term_keeps s ts u k)
 
-all_have : (ss ts : List Term) (s u : Term) → Has ss s → IsWithin u s → Has (with_all ss ts) u
+pub all_have : (ss ts : List Term) (s u : Term) → Has ss s → IsWithin u s → Has (with_all ss ts) u
 all_have [] ts s u h w = absurd h
 all_have (r ∷ rs) ts s u (inl e) w = all_keep rs (with_term r ts) u (term_has r ts u (subst (IsWithin u) (sym e) w))
 all_have (r ∷ rs) ts s u (inr h) w = all_have rs (with_term r ts) s u h w
@@ -27,7 +27,7 @@ all_first : (s : Term) (ss ts : List Term) (u : Term) → Has ts u ⊎ IsWithin 
 all_first s ss ts u (inl k) = inl k
 all_first s ss ts u (inr w) = inr (record { whole = s; stands = inl refl; within = w })
 
-all_only : (ss ts : List Term) (u : Term) → Has (with_all ss ts) u → Has ts u ⊎ IsInOne u ss
+pub all_only : (ss ts : List Term) (u : Term) → Has (with_all ss ts) u → Has ts u ⊎ IsInOne u ss
 all_only [] ts u k = inl k
 all_only (s ∷ ss) ts u k = elim (all_only ss (with_term s ts) u k) [ inl r ↦ all_first s ss ts u (term_only s ts u r) | inr w ↦ inr (record { whole = w.whole; stands = inr w.stands; within = w.within }) ]
 
@@ -36,11 +36,11 @@ all_once [] ts o = o
 all_once (s ∷ ss) ts o = all_once ss (with_term s ts) (term_once s ts o)
 
 -- ---- literals
-literals_keep : (ls : List Literal) (ts : List Term) (u : Term) → Has ts u → Has (with_literals ls ts) u
+pub literals_keep : (ls : List Literal) (ts : List Term) (u : Term) → Has ts u → Has (with_literals ls ts) u
 literals_keep [] ts u k = k
 literals_keep (l ∷ ls) ts u k = literals_keep ls (with_all (compares l) ts) u (all_keep (compares l) ts u k)
 
-literals_have : (ls : List Literal) (ts : List Term) (l : Literal) (s u : Term) → Has ls l → Has (compares l) s → IsWithin u s → Has (with_literals ls ts) u
+pub literals_have : (ls : List Literal) (ts : List Term) (l : Literal) (s u : Term) → Has ls l → Has (compares l) s → IsWithin u s → Has (with_literals ls ts) u
 literals_have [] ts l s u h c w = absurd h
 literals_have (k ∷ ks) ts l s u (inl e) c w = literals_keep ks (with_all (compares k) ts) u (all_have (compares k) ts s u (subst (λ (x : Literal). Has (compares x) s) (sym e) c) w)
 literals_have (k ∷ ks) ts l s u (inr h) c w = literals_have ks (with_all (compares k) ts) l s u h c w
@@ -57,7 +57,7 @@ literals_first : (l : Literal) (ls : List Literal) (ts : List Term) (u : Term) �
 literals_first l ls ts u (inl k) = inl k
 literals_first l ls ts u (inr w) = inr (record { by = l; stands = inl refl; whole = w.whole; compared = w.stands; within = w.within })
 
-literals_only : (ls : List Literal) (ts : List Term) (u : Term) → Has (with_literals ls ts) u → Has ts u ⊎ IsAsked u ls
+pub literals_only : (ls : List Literal) (ts : List Term) (u : Term) → Has (with_literals ls ts) u → Has ts u ⊎ IsAsked u ls
 literals_only [] ts u k = inl k
 literals_only (l ∷ ls) ts u k = elim (literals_only ls (with_all (compares l) ts) u k) [ inl r ↦ literals_first l ls ts u (all_only (compares l) ts u r) | inr w ↦ inr (record { by = w.by; stands = inr w.stands; whole = w.whole; compared = w.compared; within = w.within }) ]
 

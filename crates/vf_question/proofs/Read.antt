@@ -48,10 +48,10 @@ eq_told order.Less h = cc
 eq_told order.Equal h = refl
 eq_told order.Greater h = cc
 
-head_told : (k h : terms.Head) → is_eq (compare_heads k h) ≡ true → k ≡ h
+pub head_told : (k h : terms.Head) → is_eq (compare_heads k h) ≡ true → k ≡ h
 head_told k h e = heads_told k h (eq_told (compare_heads k h) e)
 
-head_is : (k h : terms.Head) → k ≡ h → is_eq (compare_heads k h) ≡ true
+pub head_is : (k h : terms.Head) → k ≡ h → is_eq (compare_heads k h) ≡ true
 head_is k h e = ap is_eq (subst (λ (x : terms.Head). compare_heads k x ≡ order.Equal) e (tied_itself heads_total k))
 
 next : {A : Type 0} (x d : A) (xs : List A) (n : ℕ) → get_or (x ∷ xs) (n + 1) d ≡ get_or xs n d
@@ -66,7 +66,7 @@ head_later true h k qs us e r = head_told k h e
 head_later false h k qs us e r = ap head_of (next (term k qs) (number (pos 0)) us (head_place h us)) ∙ r
 
 -- the first term with a head has it, where one has it
-at_head : (h : terms.Head) (ps : Terms) (ts : List Term) → Has ts (term h ps) → head_of (at ts (head_place h ts)) ≡ h
+pub at_head : (h : terms.Head) (ps : Terms) (ts : List Term) → Has ts (term h ps) → head_of (at ts (head_place h ts)) ≡ h
 at_head h ps [] k = absurd k
 at_head h ps (term g qs ∷ us) (inl e) = head_first (is_eq (compare_heads g h)) h g qs us refl (ap head_of e)
 at_head h ps (term g qs ∷ us) (inr k) = head_later (is_eq (compare_heads g h)) h g qs us refl (at_head h ps us k)
@@ -76,7 +76,7 @@ opaque_meant Integer n ts = refl
 opaque_meant Other n ts = refl
 
 -- the head of the table for a head of the terms stands for it
-head_meant : (h : terms.Head) (ts : List Term) → head_of (at ts (head_place h ts)) ≡ h → meant ts (tabled_head ts h) ≡ h
+pub head_meant : (h : terms.Head) (ts : List Term) → head_of (at ts (head_place h ts)) ≡ h → meant ts (tabled_head ts h) ≡ h
 head_meant (terms.Number z) ts e = refl
 head_meant (terms.Truth b) ts e = refl
 head_meant terms.Null ts e = refl
@@ -131,13 +131,13 @@ head_stands (terms.Choose k) ts = choice_stands k (head_place (terms.Choose k) t
 head_stands terms.PointerSum ts = another refl tt
 
 -- ---- nodes
-row_of_all : {A B C : Type 0} (f : A → C) (g : B → C) (xs : List A) (ys : List B) (i : ℕ) (x : A) (d : B) → map f xs ≡ map g ys → slice_get xs i ≡ Some x → (i < length ys) × (f x ≡ g (get_or ys i d))
+pub row_of_all : {A B C : Type 0} (f : A → C) (g : B → C) (xs : List A) (ys : List B) (i : ℕ) (x : A) (d : B) → map f xs ≡ map g ys → slice_get xs i ≡ Some x → (i < length ys) × (f x ≡ g (get_or ys i d))
 row_of_all f g [] ys i x d e s = cc
 row_of_all f g (z ∷ zs) [] i x d e s = cc
 row_of_all f g (z ∷ zs) (y ∷ ys) zero x d e s = let p : z ≡ x = cc in let q : f z ≡ g y = cc in (omega arith, ap f (sym p) ∙ q)
 row_of_all f g (z ∷ zs) (y ∷ ys) (suc i) x d e s = let q : map f zs ≡ map g ys = cc in let r = row_of_all f g zs ys i x d q s in (omega (arith, r.0), r.1)
 
-places_read : (ts : List Term) (ps : Terms) → ((p : Term) (i : ℕ) → IsAt p i ps → Has ts p) → in_row (at ts) (places ts ps) ≡ ps
+pub places_read : (ts : List Term) (ps : Terms) → ((p : Term) (i : ℕ) → IsAt p i ps → Has ts p) → in_row (at ts) (places ts ps) ≡ ps
 places_read ts no_terms h = refl
 places_read ts (and_term p ps) h = ap₂ and_term (at_place p (number (pos 0)) ts (h p 0 here)) (places_read ts ps (λ q i a. h q (suc i) (further_on a)))
 
@@ -151,7 +151,7 @@ places_below ts (and_term p ps) h (suc k) d l = places_below ts ps (λ q i a. h 
 abbrev pub AreThere : List Term → List Literal → Type 0
 AreThere ts ls = (l : Literal) (t : Term) → Has ls l → Has (compares l) t → Has ts t
 
-fact_read : (ts : List Term) (l : Literal) → ((t : Term) → Has (compares l) t → Has ts t) → literal (at ts) (tabled_fact ts l) ≡ l
+pub fact_read : (ts : List Term) (l : Literal) → ((t : Term) → Has (compares l) t → Has ts t) → literal (at ts) (tabled_fact ts l) ≡ l
 fact_read ts (Equal a b) h = ap₂ Equal (at_place a (number (pos 0)) ts (h a (inl refl))) (at_place b (number (pos 0)) ts (h b (inr (inl refl))))
 fact_read ts (NotEqual a b) h = ap₂ NotEqual (at_place a (number (pos 0)) ts (h a (inl refl))) (at_place b (number (pos 0)) ts (h b (inr (inl refl))))
 fact_read ts (AtMost p n c) h = ap₂ (λ x y. AtMost x y c) (at_place p (number (pos 0)) ts (h p (inl refl))) (at_place n (number (pos 0)) ts (h n (inr (inl refl))))
@@ -163,7 +163,7 @@ facts_read : (ts : List Term) (ls : List Literal) → AreThere ts ls → map (li
 facts_read ts [] h = refl
 facts_read ts (l ∷ ls) h = ap₂ (λ k ks. k ∷ ks) (fact_read ts l (λ t c. h l t (inl refl) c)) (facts_read ts ls (λ k t c d. h k t (inr c) d))
 
-fact_inside : (ts : List Term) (l : Literal) → ((t : Term) → Has (compares l) t → Has ts t) → IsInside (length ts) (tabled_fact ts l)
+pub fact_inside : (ts : List Term) (l : Literal) → ((t : Term) → Has (compares l) t → Has ts t) → IsInside (length ts) (tabled_fact ts l)
 fact_inside ts (Equal a b) h = (has_place a ts (h a (inl refl)), has_place b ts (h b (inr (inl refl))))
 fact_inside ts (NotEqual a b) h = (has_place a ts (h a (inl refl)), has_place b ts (h b (inr (inl refl))))
 fact_inside ts (AtMost p n c) h = (has_place p ts (h p (inl refl)), has_place n ts (h n (inr (inl refl))))
@@ -187,7 +187,7 @@ pub record IsOf (ts : List Term) (t : Term) (m : Node) : Type 0 where
   pub head : m.head ≡ tabled_head ts top
   pub parts : m.parts.items ≡ places ts row
 
-node_of : (ts : List Term) (t : Term) (m : Node) → entries m ≡ tabled ts t → IsOf ts t m
+pub node_of : (ts : List Term) (t : Term) (m : Node) → entries m ≡ tabled ts t → IsOf ts t m
 node_of ts (term h ps) m e = record { top = h; row = ps; whole = refl; head = ap (λ (p : Head × List ℕ). p.0) e; parts = ap (λ (p : Head × List ℕ). p.1) e }
 
 module _ (ls : List Literal) (nodes : List Node) (same : map entries nodes ≡ map (tabled (all_terms ls)) (all_terms ls)) where
