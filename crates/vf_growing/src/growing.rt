@@ -94,6 +94,7 @@ impl GrowingClasses {
         ensures number { IfOk result (λ term. IsTermOf self.new.nodes term node) }
         ensures present { OnOk result ((term : ℕ) → IsTermOf self.old.nodes term node → (self.new.nodes ≡ self.old.nodes) × (self.new.steps ≡ self.old.steps)) }
         ensures absent { IfOk result (λ term. ((k : ℕ) → IsTermOf self.old.nodes k node → ⊥) → (term ≡ length self.old.nodes) × (self.new.nodes ≡ self.old.nodes ++ node ∷ []) × (self.new.steps ≡ self.old.steps ++ Step.Term ∷ [])) }
+        ensures kept { OnOk result (length self.new.nodes ≡ length self.old.nodes → (self.new.nodes ≡ self.old.nodes) × (self.new.steps ≡ self.old.steps)) }
         ensures merged { self.new.merged ≡ self.old.merged }
         ensures same_nodes { OnErr result (self.new.nodes ≡ self.old.nodes) }
         ensures same_steps { OnErr result (self.new.steps ≡ self.old.steps) }

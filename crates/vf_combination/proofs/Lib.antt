@@ -1,0 +1,5 @@
+pub mod Onward
+pub mod Marked
+pub mod Larger
+pub mod Standing
+pub mod Levels

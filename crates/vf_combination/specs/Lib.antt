@@ -1,0 +1,3 @@
+pub mod Exchanged
+pub mod Combined
+pub mod Settled

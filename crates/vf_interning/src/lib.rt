@@ -1,0 +1,14 @@
+//! Literals that become facts over a table of numbered terms, one after the other along a path.
+//!
+//! Each term is kept once, behind its parts, and has the number of its place. The table and the facts
+//! over it are those of `vf_combination`, which decides their closure as they come and takes them back
+//! level by level; the law of readings of `vf_reading` carries what it answers back to the literals.
+#![tactic(auto)]
+
+mod facts;
+mod heads;
+mod interning;
+mod numbering;
+
+pub use interning::Interning;
+pub use numbering::{MOST_ARISING, place};
