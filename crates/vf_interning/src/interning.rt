@@ -1,6 +1,6 @@
 //! Literals along a path, as facts over a table of their terms.
 
-ghost use Rattle.std.specs.Prelude.{◌≡◌, ◌<◌, ◌++◌, ◌∷◌, [], ◌↔◌, pos, List, length, take, IsTrue, IfOk, OnOk, OnErr};
+ghost use Rattle.std.specs.Prelude.{◌≡◌, ◌<◌, ◌++◌, ◌∷◌, [], ◌↔◌, ◌≤◌, pos, List, length, take, IsTrue, IfOk, OnOk, OnErr};
 ghost use Rattle.vf_closure.specs.Terms.{number};
 ghost use Rattle.vf_closure.specs.Literals as pure;
 ghost use Rattle.vf_closure.specs.Closure.{no_unfoldings, Same, Conflict};
@@ -11,7 +11,7 @@ ghost use Rattle.vf_question.specs.Plain.{IsPlainLiteral};
 ghost use Rattle.vf_interning.specs.Interned.{meant, IsInterned};
 
 use crate::facts::fact_of;
-use crate::numbering::number_term;
+use crate::numbering::{MOST_ARISING, number_term};
 use std::alloc::Global;
 use std::marker::Model;
 use vf_base::Memory;
@@ -131,7 +131,8 @@ impl Interning {
 
     /// The terms of the literals, each at the place of its number.
     pub fn terms(&self) -> &[Term]
-        ensures { result.now ≡ all_terms self.now.literals }
+        ensures terms { result.now ≡ all_terms self.now.literals }
+        ensures few { length result.now ≤ MOST_ARISING }
     {
         &self.terms
     }
