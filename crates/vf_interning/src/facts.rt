@@ -17,13 +17,13 @@ use vf_refute::Fact;
 
 /// The numbers of two terms.
 #[derive(Clone, Copy)]
-struct Pair {
-    first: u32,
-    second: u32,
+pub(crate) struct Pair {
+    pub first: u32,
+    pub second: u32,
 }
 
 /// Answers the numbers of two terms, which are put behind their parts where they are not there.
-fn number_both(
+pub(crate) fn number_both(
     alloc: Global,
     combination: &mut Combination,
     terms: &mut Vec<Term>,

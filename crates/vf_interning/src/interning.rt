@@ -7,10 +7,10 @@ ghost use Rattle.vf_closure.specs.Closure.{no_unfoldings, Same, Conflict};
 ghost use Rattle.vf_formula.specs.Literals.{shown_literal};
 ghost use Rattle.vf_question.specs.Numbered.{all_terms};
 ghost use Rattle.vf_question.specs.Questions.{at};
-ghost use Rattle.vf_question.specs.Plain.{IsPlainLiteral};
+ghost use Rattle.vf_question.specs.Plain.{IsPlain, IsPlainLiteral};
 ghost use Rattle.vf_interning.specs.Interned.{meant, IsInterned};
 
-use crate::facts::fact_of;
+use crate::facts::{fact_of, number_both};
 use crate::numbering::{MOST_ARISING, number_term};
 use std::alloc::Global;
 use std::marker::Model;
@@ -64,6 +64,27 @@ fn assume_in(
     Ok(())
 }
 
+/// Adds to a table and its facts that two terms are equal.
+fn assume_equal_in(
+    alloc: Global,
+    combination: &mut Combination,
+    terms: &mut Vec<Term>,
+    a: &Term,
+    b: &Term,
+) -> Result<(), Memory>
+    requires interned { IsInterned combination.old.nodes combination.old.facts terms.old.items }
+    requires first { IsPlain a.now }
+    requires second { IsPlain b.now }
+    ensures interned { IfOk result (λ _. IsInterned combination.new.nodes combination.new.facts terms.new.items) }
+    ensures literals { OnOk result (meant terms.new.items combination.new.facts ≡ meant terms.old.items combination.old.facts ++ pure.Equal a.now b.now ∷ []) }
+    ensures kept { take (length terms.old.items) terms.new.items ≡ terms.old.items }
+    ensures levels { combination.new.levels ≡ combination.old.levels }
+{
+    let pair = number_both(alloc, combination, terms, a, b)?;
+    combination.assume(alloc, Fact::Equal(pair.first, pair.second))?;
+    Ok(())
+}
+
 /// Adds to an empty table that 0 is 0.
 fn assume_zero(
     alloc: Global,
@@ -109,6 +130,29 @@ impl Interning {
         self.combination.begin()?;
         let count = self.terms.len();
         match assume_in(alloc, &mut self.combination, &mut self.terms, literal) {
+            Ok(()) => {
+                self.combination.keep();
+                Ok(())
+            }
+            Err(fault) => {
+                self.combination.end();
+                self.terms.truncate(count);
+                Err(fault)
+            }
+        }
+    }
+
+    /// Adds that two terms are equal. Where there is no memory nothing is added.
+    pub fn assume_equal(&mut self, alloc: Global, a: &Term, b: &Term) -> Result<(), Memory>
+        requires first { IsPlain a.now }
+        requires second { IsPlain b.now }
+        ensures literals { OnOk result (self.new.literals ≡ self.old.literals ++ pure.Equal a.now b.now ∷ []) }
+        ensures unchanged { OnErr result (self.new.literals ≡ self.old.literals) }
+        ensures levels { self.new.levels ≡ self.old.levels }
+    {
+        self.combination.begin()?;
+        let count = self.terms.len();
+        match assume_equal_in(alloc, &mut self.combination, &mut self.terms, a, b) {
             Ok(()) => {
                 self.combination.keep();
                 Ok(())
