@@ -1,0 +1,4 @@
+pub mod Standing
+pub mod Covering
+pub mod Settling
+pub mod Looping
