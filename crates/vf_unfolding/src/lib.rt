@@ -5,9 +5,11 @@
 //! equation is one literal more, and nothing is made anew.
 #![tactic(auto)]
 
+mod deciding;
 mod depths;
 mod round;
 mod searching;
 mod within;
 
+pub use deciding::refuted;
 pub use round::{Round, next_round};
