@@ -1,9 +1,9 @@
 -- How many terms a question has does not depend on the order of its terms.
-use Rattle.std.proofs.Common.{◌≡◌, ◌+◌, ◌≤◌, ◌<◌, ◌⊎◌, inl, inr, List, [], ◌∷◌, ◌++◌, length, refl, sym, ap, ◌∙◌, subst, arith}
+use Rattle.std.proofs.Common.{◌≡◌, ◌+◌, ◌≤◌, ◌<◌, ◌⊎◌, inl, inr, suc, List, [], ◌∷◌, ◌++◌, length, refl, sym, ap, ◌∙◌, subst, arith}
 use Rattle.std.proofs.Common.{length-append}
 use Rattle.std.proofs.lemmas.List.{get_or_push}
 use Rattle.std.proofs.lemmas.Int.{ints}
-use Rattle.std.specs.Prelude.{pos, neg_ℤ, ◌-ℤ◌, Option, Some, None, Bool, true, false, IsTrue, ◌↔◌, MatchOption, All}
+use Rattle.std.specs.Prelude.{pos, neg_ℤ, ◌-ℤ◌, Bool, true, false, IsTrue, ◌↔◌, All}
 use Rattle.vf_closure.specs.Terms.{Term}
 use Rattle.vf_closure.specs.Closure.{Unfoldings, Conflict, IsRefuted}
 use Rattle.vf_closure.specs.Literals.{Literal, Equal, NotEqual, AtMost, Difference, NotDifference, False, denied, compares}
@@ -11,6 +11,8 @@ use Rattle.vf_question.specs.declared.numbering.TheConstants.{MOST_TERMS}
 use Rattle.vf_question.specs.Plain.{IsPlainLiteral}
 use Rattle.vf_question.specs.Numbered.{with_term, with_all, with_literals, terms_of}
 use Rattle.vf_question.proofs.Has.{Has, AreOnce, term_keeps, term_has, term_only, term_once}
+use Rattle.vf_unfolding.proofs.Marks.{no_fewer_terms}
+use Rattle.std.proofs.lemmas.Bool.{false≢true}
 use Rattle.vf_answer.specs.Answers.{GoalsAreCounted, CanBeDenied, asked_terms}
 
 -- a list without the first that is such a term
@@ -82,35 +84,31 @@ goals_are_counted facts goal =
     ap length (then_literals facts (denied goal) []) ∙ denied_once goal (with_literals facts []) (literals_once facts [] tt) ∙ ap length (sym (then_literals facts (goal ∷ []) []))
 
 -- ---- answers
-too_many : (facts literals : List Literal) (goal : Literal) → literals ≡ facts ++ denied goal → MOST_TERMS < length (terms_of literals) → MOST_TERMS < length (asked_terms facts goal)
+pub too_many : (facts literals : List Literal) (goal : Literal) → literals ≡ facts ++ denied goal → MOST_TERMS < length (terms_of literals) → MOST_TERMS < length (asked_terms facts goal)
 too_many facts literals goal e h = let k = ap (λ ls. length (terms_of ls)) e ∙ goals_are_counted facts goal in omega (arith, h, k)
 
-few_enough : (facts literals : List Literal) (goal : Literal) → literals ≡ facts ++ denied goal → length (terms_of literals) ≤ MOST_TERMS → length (asked_terms facts goal) ≤ MOST_TERMS
+pub few_enough : (facts literals : List Literal) (goal : Literal) → literals ≡ facts ++ denied goal → length (terms_of literals) ≤ MOST_TERMS → length (asked_terms facts goal) ≤ MOST_TERMS
 few_enough facts literals goal e h = let k = ap (λ ls. length (terms_of ls)) e ∙ goals_are_counted facts goal in omega (arith, h, k)
 
--- what the decision of the closure says
-abbrev pub Decided : Unfoldings → List Literal → Option Bool → Type 0
-Decided u literals o = MatchOption o (MOST_TERMS < length (terms_of literals)) (λ b. (length (terms_of literals) ≤ MOST_TERMS) × (IsTrue b ↔ Conflict u literals))
+-- a conflict of what a path has is a plain refutation, and none is none
+pub proved_answered : (u : Unfoldings) (facts literals : List Literal) (goal : Literal) (b : Bool) → literals ≡ facts ++ denied goal → length (terms_of literals) ≤ MOST_TERMS → b ≡ true → IsTrue b ↔ Conflict u literals → (length (asked_terms facts goal) ≤ MOST_TERMS) × IsRefuted u facts goal
+proved_answered u facts literals goal b e l test h = (few_enough facts literals goal e l, subst (Conflict u) e (h.0 test))
 
-pub terms_answered : (u : Unfoldings) (facts literals : List Literal) (goal : Literal) (o : Option Bool) → literals ≡ facts ++ denied goal → o ≡ None → Decided u literals o → MOST_TERMS < length (asked_terms facts goal)
-terms_answered u facts literals goal o e is h = too_many facts literals goal e (subst (Decided u literals) is h)
+pub unknown_answered : (u : Unfoldings) (facts literals : List Literal) (goal : Literal) (b : Bool) → literals ≡ facts ++ denied goal → length (terms_of literals) ≤ MOST_TERMS → b ≡ false → IsTrue b ↔ Conflict u literals → (length (asked_terms facts goal) ≤ MOST_TERMS) × (IsRefuted u facts goal → ⊥)
+unknown_answered u facts literals goal b e l test h = (few_enough facts literals goal e l, λ r. false≢true (sym test ∙ h.1 (subst (Conflict u) (sym e) r)))
 
-pub proved_answered : (u : Unfoldings) (facts literals : List Literal) (goal : Literal) (o : Option Bool) (b : Bool) → literals ≡ facts ++ denied goal → o ≡ Some b → b ≡ true → Decided u literals o → (length (asked_terms facts goal) ≤ MOST_TERMS) × IsRefuted u facts goal
-proved_answered u facts literals goal o b e is test h =
-    let d = subst (Decided u literals) is h in
-    (few_enough facts literals goal e d.0, subst (Conflict u) e (d.1.0 test))
-
-pub unknown_answered : (u : Unfoldings) (facts literals : List Literal) (goal : Literal) (o : Option Bool) (b : Bool) → literals ≡ facts ++ denied goal → o ≡ Some b → b ≡ false → Decided u literals o → (length (asked_terms facts goal) ≤ MOST_TERMS) × (IsRefuted u facts goal → ⊥)
-unknown_answered u facts literals goal o b e is test h =
-    let d = subst (Decided u literals) is h in
-    (few_enough facts literals goal e d.0, λ r. apart (sym test ∙ d.1.1 (subst (Conflict u) (sym e) r)))
-  where
-    apart : false ≡ true → ⊥
-    apart q = absurd cc
+-- facts that have too many terms have too many with a goal
+pub facts_too_many : (facts : List Literal) (goal : Literal) → MOST_TERMS < length (terms_of facts) → MOST_TERMS < length (asked_terms facts goal)
+facts_too_many facts goal h = let l = no_fewer_terms facts (goal ∷ []) in omega (arith, h, l)
 
 -- what holds of each of a list holds of its last
 last_of : {A : Type 0} (P : A → Type 0) (xs : List A) (x : A) → All P (xs ++ x ∷ []) → P x
 last_of P xs x h = subst P (get_or_push xs x x (length xs) refl) (h (length xs) x (simp length-append (omega arith)))
+
+-- what holds of each of a list holds of those behind its front
+pub all_behind : {A : Type 0} (P : A → Type 0) (xs ys : List A) → All P (xs ++ ys) → All P ys
+all_behind P [] ys h = h
+all_behind P (x ∷ xs) ys h = all_behind P xs ys (λ k d l. h (suc k) d (omega (arith, l)))
 
 -- a goal whose negation is plain can be denied
 pub deniable : (facts : List Literal) (goal : Literal) → All IsPlainLiteral (facts ++ denied goal) → CanBeDenied goal

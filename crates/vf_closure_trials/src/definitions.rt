@@ -1,12 +1,18 @@
 //! Fixpoints, unfolded, and questions of a unit that has them.
 
+ghost use Rattle.std.specs.Prelude.{◌<◌, length};
+ghost use Rattle.vf_formula.specs.Literals.{shown_literal};
+ghost use Rattle.vf_question.specs.Plain.{IsPlainLiteral};
+ghost use Rattle.vf_asking.specs.Plain.{CanBeAsked};
+ghost use Rattle.vf_asking.specs.Journal.{HasNode};
+
 use std::alloc::Global;
 use std::test::Fail;
 use vf_asking::{
     Asker, Journal, can_be_asked, can_be_fact, courses_are_determined, courses_only_append, holds,
     note, right_courses_are_determined,
 };
-use vf_base::{Memory, Place, Rule, RuleFault, Sequence, Text};
+use vf_base::{Memory, Place, RuleFault, Sequence, Text};
 use vf_core::Operator;
 use vf_deciding::Prover;
 use vf_definitions::{
@@ -14,6 +20,7 @@ use vf_definitions::{
 };
 use vf_formula::{Head, Kind, Literal, Name, Term};
 use vf_question::is_plain;
+use vf_trail::Node;
 use vf_unfold::Unfolder;
 
 /// Where the goals stand.
@@ -159,25 +166,60 @@ fn has_length(alloc: Global, number: u64, length: i128) -> Result<Literal, Memor
     Ok(Literal::Difference(left, Term::of_number(alloc, 0), length))
 }
 
-/// Whether a goal is proved behind a fact, then where no fact stands, and then behind the fact again; none
-/// where they may be no fact and no goal.
-#[tactic(auto, using(vf_asking::proofs::Seeing::beginning, vf_asking::proofs::Seeing::grown))]
+/// Whether a goal is proved behind a fact, then where no fact stands, and then behind the fact again.
+fn answers_of(
+    prover: &mut Prover,
+    root: Node,
+    fact: &Literal,
+    goal: &Literal,
+) -> Result<[bool; 3], RuleFault>
+    requires begun { 0 < length prover.old.journal.units }
+    requires there { HasNode prover.old.journal root }
+    requires fact { IsPlainLiteral (shown_literal fact.now) }
+    requires goal { CanBeAsked (shown_literal goal.now) }
+{
+    let node = note(prover, root, fact, PLACE)?;
+    let behind = holds(prover, node, goal, PLACE)?;
+    let before = holds(prover, root, goal, PLACE)?;
+    let again = holds(prover, node, goal, PLACE)?;
+    Ok([behind, before, again])
+}
+
+/// The same, of a new prover with these definitions.
+#[tactic(auto, using(vf_asking::proofs::Seeing::beginning))]
+fn answers_with(
+    alloc: Global,
+    definitions: &Definitions,
+    fact: &Literal,
+    goal: &Literal,
+) -> Result<[bool; 3], RuleFault>
+    requires fact { IsPlainLiteral (shown_literal fact.now) }
+    requires goal { CanBeAsked (shown_literal goal.now) }
+{
+    let mut prover = Prover::new(Journal::new(alloc));
+    match prover.begin(definitions) {
+        Ok(root) => answers_of(&mut prover, root, fact, goal),
+        Err(_) => Err(RuleFault::Memory),
+    }
+}
+
+/// The same, with both fixpoints; none where they may be no fact and no goal.
 fn answers(alloc: Global, fact: &Literal, goal: &Literal) -> Result<Option<[bool; 3]>, RuleFault> {
     if !can_be_fact(fact) || !can_be_asked(goal) {
         return Ok(None);
     }
     let both = definitions(alloc)?;
-    let mut prover = Prover::new(Journal::new(alloc));
-    let root = match prover.begin(&both) {
-        Ok(root) => root,
-        Err(_) => return Err(RuleFault::Memory),
-    };
-    let node = note(&mut prover, root, fact, PLACE)?;
-    let behind = holds(&mut prover, node, goal, PLACE)?;
-    let before = holds(&mut prover, root, goal, PLACE)?;
-    let again = holds(&mut prover, node, goal, PLACE)?;
-    let _journal = prover.finish();
-    Ok(Some([behind, before, again]))
+    match answers_with(alloc, &both, fact, goal) {
+        Ok(answers) => Ok(Some(answers)),
+        Err(fault) => Err(fault),
+    }
+}
+
+/// A prover hands its journal back, in which nothing was asked.
+#[test]
+fn provers_are_finished(rt: HostRuntime) {
+    let prover = Prover::new(Journal::new(rt.alloc()));
+    assert_eq!(rt; prover.finish().entries.len(), 0);
 }
 
 #[test]
@@ -197,36 +239,10 @@ fn questions_are_answered(rt: HostRuntime) -> Result<(), Fail> {
     Ok(())
 }
 
-/// Whether `false` is proved behind so many facts, each with a term of its own.
-#[tactic(auto, using(vf_asking::proofs::Seeing::beginning, vf_asking::proofs::Seeing::grown))]
-fn with_terms(alloc: Global, count: i128) -> Result<bool, RuleFault> {
-    let mut prover = Prover::new(Journal::new(alloc));
-    let mut node = match prover.begin(&Definitions::new(alloc)) {
-        Ok(root) => root,
-        Err(_) => return Err(RuleFault::Memory),
-    };
-    for number in 0..count {
-        let left = Term::of_number(alloc, number);
-        let fact = Literal::Equal(left, Term::of_number(alloc, number));
-        if can_be_fact(&fact) {
-            node = note(&mut prover, node, &fact, PLACE)?;
-        }
-    }
-    if !can_be_asked(&Literal::False) {
-        return Ok(true);
-    }
-    holds(&mut prover, node, &Literal::False, PLACE)
-}
-
+/// The laws of courses hold of each result.
 #[test]
-fn questions_have_at_most_1024_terms(rt: HostRuntime) -> Result<(), Fail> {
-    assert!(rt; !with_terms(rt.alloc(), 1024)?);
-    let refused = with_terms(rt.alloc(), 1025);
-    assert!(rt;
-        matches!(&refused, Err(RuleFault::Refused(refusal)) if refusal.rule == Rule::Terms)
-    );
+fn courses_have_laws() {
     courses_only_append::<bool>();
     courses_are_determined::<bool>();
     right_courses_are_determined::<bool>();
-    Ok(())
 }

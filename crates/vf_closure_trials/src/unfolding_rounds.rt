@@ -5,7 +5,8 @@ use std::test::Fail;
 use vf_base::{Memory, Text};
 use vf_formula::{Head, Kind, Literal, Name, Term};
 use vf_question::are_plain;
-use vf_unfold::{Listed, refuted};
+use vf_unfold::Listed;
+use vf_unfolding::refuted;
 
 /// An integer symbol.
 fn integer(alloc: Global, number: u64) -> Term {

@@ -1,3 +1,4 @@
 pub mod Walking
 pub mod Answering
 pub mod Staying
+pub mod Stepping

@@ -1,12 +1,13 @@
 //! The prover over terms: it answers questions, and keeps each with its answer in the journal that it owns.
 //!
 //! The contract promises right answers in the sense of `vf_asking`: Proved exactly where there is a plain
-//! refutation, the fixpoints of the unit that asks being unfolded, and then the facts entail the goal. Each
-//! question is decided from its own path.
+//! refutation, the fixpoints of the unit that asks being unfolded, and then the facts entail the goal. The
+//! prover works along a path: from where it was asked last it goes back to where the ways part, and on.
 #![tactic(auto)]
 
+mod along;
 mod deciding;
-mod path;
+mod line;
 mod prover;
 
 pub use prover::Prover;

@@ -10,13 +10,17 @@ use vf_asking::{Answer, AskFault, Asker, Journal};
 use vf_definitions::Definitions;
 use vf_formula::Literal;
 use vf_trail::Node;
+use vf_unfolding::Path;
 
-/// An asker that owns its journal and gives right answers. Contracts see it as its journal and the
-/// number of entries that the journal held when the prover was made.
-#[derive(Debug, Drop)]
+/// An asker that owns its journal and gives right answers. It keeps a path, at most one, that stands where it was
+/// asked last, and goes from there to where it is asked next. Contracts see it as its journal and the number of
+/// entries that the journal held when the prover was made.
+#[derive(Drop)]
 pub struct Prover {
     journal: Journal,
     origin: usize,
+    paths: Vec<Path>,
+    nodes: Vec<Node>,
 }
 
 impl Model for Prover {
@@ -34,7 +38,9 @@ impl Model for Prover {
 
     ghost view = { λ p. record { journal = p.journal; origin = p.origin } };
 
-    ghost invariant = { λ p. AreRightFrom p.origin (seen p.journal) × (p.origin ≤ length p.journal.entries) };
+    ghost use Rattle.vf_deciding.specs.Along.{IsStanding};
+
+    ghost invariant = { λ p. AreRightFrom p.origin (seen p.journal) × (p.origin ≤ length p.journal.entries) × IsStanding p.journal.units p.journal.trail.facts p.paths.items p.nodes.items };
 }
 
 impl Prover {
@@ -44,7 +50,14 @@ impl Prover {
         ensures origin { result.origin ≡ length journal.entries }
     {
         let origin = journal.entries.len();
-        Prover { journal, origin }
+        let paths = Vec::new(journal.trail.allocator());
+        let nodes = Vec::new(journal.trail.allocator());
+        Prover {
+            journal,
+            origin,
+            paths,
+            nodes,
+        }
     }
 
     /// Hands the journal back, with right answers in each entry that it gained.
@@ -63,6 +76,8 @@ impl Asker for Prover {
 
     fn begin(&mut self, defs: &Definitions) -> Result<Node, AskFault> {
         self.journal.begin(defs)?;
+        self.paths.clear();
+        self.nodes.clear();
         Ok(Node::ROOT)
     }
 
@@ -72,7 +87,7 @@ impl Asker for Prover {
     }
 
     fn ask(&mut self, at: Node, goal: &Literal) -> Result<Answer, AskFault> {
-        let answer = decide(&self.journal, at, goal)?;
+        let answer = decide(&self.journal, &mut self.paths, &mut self.nodes, at, goal)?;
         self.journal.keep(at, goal, answer)?;
         Ok(answer)
     }

@@ -3,3 +3,7 @@
 
 #[cfg(test)]
 mod levels;
+#[cfg(test)]
+mod paths;
+#[cfg(test)]
+mod random;

@@ -1,16 +1,13 @@
 -- Literals that cover others, but for the one that 0 is 0, have what follows from these.
-use Rattle.std.proofs.Common.{◌≡◌, ◌⊎◌, inl, inr, ℕ, List, [], ◌∷◌, sym, subst}
+use Rattle.std.proofs.Common.{◌≡◌, inl, inr, ℕ, List, [], ◌∷◌, sym, subst}
 use Rattle.std.specs.Prelude.{pos, ℤ, Contains}
 use Rattle.vf_closure.specs.Terms.{Term, Terms, number}
 use Rattle.vf_closure.specs.Literals.{Literal, Equal, NotEqual, AtMost, Difference, NotDifference, False, compares}
 use Rattle.vf_closure.specs.Closure.{no_unfoldings, Arises, asked, zero_arises, deeper, in_body, in_case, Same, AllSame, Bound, Conflict}
 use Rattle.vf_closure.specs.Closure as c
+use Rattle.vf_unfolding.specs.Rounds.{IsCovered}
 use Rattle.vf_question.proofs.Has.{contains_has}
 use Rattle.vf_question.proofs.Asked.{within_zero}
-
--- a literal stands among others, or says that 0 is 0
-abbrev pub IsCovered : List Literal → Literal → Type 0
-IsCovered ms l = Contains ms l ⊎ (Equal (number (pos 0)) (number (pos 0)) ≡ l)
 
 zero_compared : (l : Literal) (s : Term) → Equal (number (pos 0)) (number (pos 0)) ≡ l → Contains (compares l) s → s ≡ number (pos 0)
 zero_compared l s e k = elim (contains_has (number (pos 0) ∷ number (pos 0) ∷ []) s (subst (λ (m : Literal). Contains (compares m) s) (sym e) k)) [

@@ -1,4 +1,10 @@
 pub mod Standing
 pub mod Covering
-pub mod Settling
+pub mod Leasts
+pub mod Arising
+pub mod Numbers
+pub mod Marks
+pub mod Rounded
 pub mod Looping
+pub mod Levels
+pub mod Later

@@ -1,2 +1,4 @@
 pub mod Searched
 pub mod Rounds
+pub mod Walked
+pub mod Codes

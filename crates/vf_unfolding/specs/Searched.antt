@@ -1,13 +1,13 @@
 -- What a search for the next unfolding finds, over the numbered terms with their depths, and what the closure of literals has equal, no fixpoint being unfolded.
-use Rattle.std.specs.Prelude.{◌≡◌, ℕ, ◌<◌, max, cond, List, length, Option, Some, slice_index}
-use Rattle.vf_closure.specs.Terms.{Head, Constructor, Term, term}
+use Rattle.std.specs.Prelude.{◌≡◌, ℕ, ◌<◌, max, pos, List, length, Contains, Option, Some, slice_index}
+use Rattle.vf_closure.specs.Terms.{Head, Constructor, Term, term, number}
 use Rattle.vf_closure.specs.Literals.{Literal}
 use Rattle.vf_closure.specs.Closure.{Unfoldings, no_unfoldings, Same}
 use Rattle.vf_question.specs.declared.unfolding.Unfolding.{Unfolding}
 use Rattle.vf_question.specs.Numbered.{place}
 use Rattle.vf_question.specs.Plain.{IsPlain}
 use Rattle.vf_question.specs.Questions.{at}
-use Rattle.vf_question.specs.Unfolded.{is_in, least_depth, WasMade}
+use Rattle.vf_question.specs.Unfolded.{least_depth, WasMade}
 
 -- a head is a constructor
 abbrev pub IsConstructor : Head → Type 0
@@ -18,9 +18,16 @@ IsConstructor _ = ⊥
 abbrev pub IsOfConstructor : Term → Type 0
 IsOfConstructor (term h ps) = IsConstructor h
 
--- the depth of a term, where these are the terms of the question
-abbrev pub depth_among : List Term → List Unfolding → Term → ℕ
-depth_among asked made t = cond (is_in t asked) 0 (least_depth made t)
+-- a depth is that of the numbered term: 0 for 0 and for the terms of the question, which have the asked numbers
+pub record IsDepth (asked : List ℕ) (made : List Unfolding) (ts : List Term) (k d : ℕ) : Type 0 where
+  pub zero : at ts k ≡ number (pos 0) → d ≡ 0
+  pub asked_for : Contains asked k → d ≡ 0
+  pub made_for : (at ts k ≡ number (pos 0) → ⊥) → (Contains asked k → ⊥) → d ≡ least_depth made (at ts k)
+
+-- depths are those of the numbered terms, each at its number
+pub record AreDepths (asked : List ℕ) (made : List Unfolding) (ts : List Term) (ds : List ℕ) : Type 0 where
+  pub long : length ds ≡ length ts
+  pub each : (k : ℕ) → k < length ts → IsDepth asked made ts k (slice_index ds k)
 
 -- an application is unfolded no deeper than 4; and where there is something to unfold it to, that was made at no greater depth
 abbrev pub IsExhausted : List Unfolding → Term → ℕ → Option Term → Type 0

@@ -1,17 +1,15 @@
 //! One round: the closure without unfolding, and what is unfolded next.
 
-ghost use Rattle.std.specs.Prelude.{◌≡◌, ◌++◌, List, All, IfOk};
+ghost use Rattle.std.specs.Prelude.{List, All, IfOk};
 ghost use Rattle.vf_closure.specs.Literals as pure;
-ghost use Rattle.vf_question.specs.Numbered.{pointed, all_terms};
 ghost use Rattle.vf_question.specs.Plain.{IsPlainLiteral};
-ghost use Rattle.vf_question.specs.Unfolded.{equations, AreRight};
-ghost use Rattle.vf_unfolding.specs.Rounds.{zero_and, IsRound};
+ghost use Rattle.vf_question.specs.Unfolded.{AreRight};
+ghost use Rattle.vf_unfolding.specs.Rounds.{AreKeptFor, IsRound};
 
 use crate::depths::depths;
 use crate::searching::find_next;
 use std::alloc::Global;
 use vf_base::Memory;
-use vf_formula::Term;
 use vf_interning::Interning;
 use vf_question::Unfolding;
 use vf_unfold::Unfolder;
@@ -27,18 +25,18 @@ pub enum Round {
     Next(Unfolding),
 }
 
-/// One round, over the literals of the question and the equations of the unfoldings that were made,
-/// behind the literal that 0 is 0.
-pub fn next_round<U: Unfolder>(
+/// One round, over the literals of the question and the equations of the unfoldings that were made, in
+/// whichever order they came, with the numbers of the question's terms.
+pub(crate) fn next_round<U: Unfolder>(
     alloc: Global,
     unfolder: &U,
-    asked: &[&Term],
+    asked: &[u32],
     interning: &Interning,
     made: &[Unfolding],
 ) -> Result<Round, Memory>
     requires plain { All IsPlainLiteral interning.now.literals }
     ensures { IfOk result
-        (λ r. (facts : List pure.Literal) → pointed asked.now ≡ all_terms facts → interning.now.literals ≡ zero_and (facts ++ equations made.now) → AreRight (U.unfoldings unfolder.now) facts made.now → IsRound (U.unfoldings unfolder.now) facts made.now r) }
+        (λ r. (facts : List pure.Literal) → AreKeptFor interning.now.literals facts made.now asked.now → AreRight (U.unfoldings unfolder.now) facts made.now → IsRound (U.unfoldings unfolder.now) facts made.now r) }
 {
     if interning.refuted() {
         return Ok(Round::Conflict);

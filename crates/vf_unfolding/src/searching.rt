@@ -304,7 +304,7 @@ fn next_of<U: Unfolder>(
 }
 
 /// The next unfolding of one of the terms, none where all were made.
-pub fn find_next<U: Unfolder>(
+pub(crate) fn find_next<U: Unfolder>(
     alloc: Global,
     unfolder: &U,
     made: &[Unfolding],

@@ -6,7 +6,7 @@ ghost use Rattle.vf_closure.specs.Terms.{IsWithin};
 use vf_formula::Term;
 
 /// Whether a term is another one, or a subterm of it.
-pub fn is_within(term: &Term, whole: &Term) -> bool
+pub(crate) fn is_within(term: &Term, whole: &Term) -> bool
     ensures { IsTrue result ↔ IsWithin term.now whole.now }
 {
     if whole.same(term) {

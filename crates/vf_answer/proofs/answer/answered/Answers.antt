@@ -1,22 +1,20 @@
-use Rattle.std.proofs.Common.{◌∙◌, ap, map}
+use Rattle.std.proofs.Common.{List, map, subst}
+use Rattle.std.specs.Prelude.{IfOk}
+use Rattle.vf_closure.specs.Literals as pure
 use Rattle.vf_formula.specs.Literals.{shown_literal}
-use Rattle.vf_answer.proofs.Counting.{deniable, terms_answered, proved_answered, unknown_answered}
+use Rattle.vf_question.specs.Plain.{IsPlainLiteral}
+use Rattle.vf_answer.specs.Answers.{IsAnswer}
+use Rattle.vf_answer.proofs.Counting.{all_behind, facts_too_many}
 use Rattle.vf_answer.proofs.answer.answered.Goals as goal
 
+pub answered_along-requires-clause-plain : goal.answered_along-requires-clause-plain
+answered_along-requires-clause-plain g c = all_behind IsPlainLiteral (map shown_literal c.args.facts.now) (pure.denied (shown_literal c.args.goal.now)) c.requires
+
+pub returns-in-Some : goal.returns-in-Some
+returns-in-Some g c =
+    let u = g.U.Unfolder.unfoldings c.args.unfolder.now in
+    let h = rw c.in-Some.is at c.in_ok-found.ensures in
+    subst (λ (ls : List pure.Literal). IfOk c.answered_along.result (IsAnswer u ls (shown_literal c.args.goal.now))) h.1 c.answered_along.ensures.answer
+
 pub returns-in-None : goal.returns-in-None
-returns-in-None g c =
-    terms_answered (g.U.Unfolder.unfoldings c.args.unfolder.now) (map shown_literal c.args.facts.now) (map shown_literal c.deref.result.now) (shown_literal c.args.goal.now) c.in_ok-refuted.field-0
-    (ap (map shown_literal) c.deref.ensures.value ∙ c.in_ok-literals.ensures) c.in-None.is c.in_ok-refuted.ensures
-
-pub returns-in-Some-true : goal.returns-in-Some-true
-returns-in-Some-true g c =
-    proved_answered (g.U.Unfolder.unfoldings c.args.unfolder.now) (map shown_literal c.args.facts.now) (map shown_literal c.deref.result.now) (shown_literal c.args.goal.now) c.in_ok-refuted.field-0 c.in-Some-true.field-0
-    (ap (map shown_literal) c.deref.ensures.value ∙ c.in_ok-literals.ensures) c.in-Some-true.is c.in-Some-true.field-0-test c.in_ok-refuted.ensures
-
-pub returns : goal.returns
-returns g c =
-    unknown_answered (g.U.Unfolder.unfoldings c.args.unfolder.now) (map shown_literal c.args.facts.now) (map shown_literal c.deref.result.now) (shown_literal c.args.goal.now) c.in_ok-refuted.field-0 c.in-Some-false.field-0
-    (ap (map shown_literal) c.deref.ensures.value ∙ c.in_ok-literals.ensures) c.in-Some-false.is c.in-Some-false.field-0-test c.in_ok-refuted.ensures
-
-pub question-requires : goal.question-requires
-question-requires g c = deniable (map shown_literal c.args.facts.now) (shown_literal c.args.goal.now) c.requires
+returns-in-None g c = facts_too_many (map shown_literal c.args.facts.now) (shown_literal c.args.goal.now) (rw c.in-None.is at c.in_ok-found.ensures)

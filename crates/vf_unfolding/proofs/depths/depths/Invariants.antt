@@ -1,7 +1,10 @@
-use Rattle.std.proofs.Common.{◌≡◌, map, take}
-use Rattle.vf_question.specs.Numbered.{pointed}
-use Rattle.vf_unfolding.specs.Searched.{depth_among}
+use Rattle.std.proofs.Common.{◌≡◌, ◌<◌, ℕ, length}
+use Rattle.std.specs.Prelude.{slice_index}
+use Rattle.vf_unfolding.specs.Searched.{IsDepth}
 use Rattle.vf_unfolding.proofs.depths.depths.Given as goal
 
-abbrev pub invariant-loop-term : goal.invariant-loop-term
-invariant-loop-term l = l.depths.items ≡ map (depth_among (pointed l.asked) l.made) (take l.term-index l.terms)
+abbrev pub invariant-loop-i : goal.invariant-loop-i
+invariant-loop-i l = record {
+  long : length l.depths.items ≡ l.i;
+  each : (k : ℕ) → k < l.i → IsDepth l.asked l.made l.terms k (slice_index l.depths.items k);
+}

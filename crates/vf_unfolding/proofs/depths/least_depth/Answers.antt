@@ -1,5 +1,5 @@
 use Rattle.std.proofs.Common.{arith}
-use Rattle.vf_unfold.proofs.Leasts.{least_small}
+use Rattle.vf_unfolding.proofs.Leasts.{least_small}
 use Rattle.vf_unfolding.proofs.depths.least_depth.Goals as goal
 
 pub loop-unfolding-init : goal.loop-unfolding-init

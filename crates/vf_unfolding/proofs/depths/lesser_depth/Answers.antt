@@ -1,6 +1,6 @@
 use Rattle.std.proofs.Common.{sym, ◌∙◌}
 use Rattle.std.proofs.lemmas.Bool.{false≢true}
-use Rattle.vf_unfold.proofs.Leasts.{within_counts, others_stay}
+use Rattle.vf_unfolding.proofs.Leasts.{within_counts, others_stay}
 use Rattle.vf_unfolding.proofs.depths.lesser_depth.Goals as goal
 
 pub returns-then-is_within : goal.returns-then-is_within
