@@ -16,8 +16,14 @@ mod datatypes;
 #[cfg(test)]
 mod fixpoints;
 #[cfg(test)]
+mod heading;
+#[cfg(test)]
 mod heads;
 #[cfg(test)]
 mod predicates;
 #[cfg(test)]
 mod sorts;
+#[cfg(test)]
+mod surroundings;
+#[cfg(test)]
+mod texts;

@@ -1,18 +1,17 @@
 //! Texts of predicates, predicate constructors and bodies of families, and what they declare or where they are refused.
 
+use crate::surroundings::one;
+use crate::texts::{before, none_differs, tokens};
 use std::alloc::Global;
-use std::test::Fail;
-use vf_base::{Rule, RuleFault};
-use vf_cursor::cursor::Cursor;
+use vf_base::{Memory, Rule, RuleFault};
 use vf_cursor::fault::Stop;
 use vf_declared::scope::Scope;
-use vf_lexer::lex;
 use vf_parse_ghost::items::ghost_item;
 use vf_predicates::{
     are_same, declare_constructor_body, declare_instance, declare_predicate, declare_predicate_body,
 };
 use vf_sample::sample;
-use vf_sorts::{Head, Sort, SortList};
+use vf_sorts::Head;
 use vf_syntax::item::{GhostForm, GhostItem};
 
 /// How many things of annotations, and how many locals, there are behind a text, of which eleven and seven stand before
@@ -25,17 +24,8 @@ enum Answer {
 
 /// A short text of an item.
 fn parsed(alloc: Global, text: &str) -> Result<GhostItem, Stop> {
-    if text.len() > 100 {
-        return Err(Stop::Memory);
-    }
-    let tokens = lex(alloc, text.as_bytes(), 0, true)
-        .ok()
-        .ok_or(Stop::Memory)?;
-    let mut cursor = Cursor {
-        alloc,
-        left: tokens.as_slice(),
-    };
-    ghost_item(&mut cursor, 9)
+    let tokens = tokens(alloc, text)?;
+    ghost_item(&mut before(alloc, tokens.as_slice()), 9)
 }
 
 /// Declares an item.
@@ -81,138 +71,184 @@ fn found(alloc: Global, text: &str) -> Result<Answer, Stop> {
     found_in(alloc, &mut scope, text)
 }
 
+/// What comes of a text behind another in a unit.
+fn both_in(alloc: Global, scope: &mut Scope, first: &str, text: &str) -> Result<Answer, Stop> {
+    let _before = found_in(alloc, scope, first)?;
+    found_in(alloc, scope, text)
+}
+
 /// What comes of a text behind another.
 fn found_behind(alloc: Global, first: &str, text: &str) -> Result<Answer, Stop> {
     let mut scope = sample(alloc)?;
-    let _before = found_in(alloc, &mut scope, first)?;
-    found_in(alloc, &mut scope, text)
+    both_in(alloc, &mut scope, first, text)
 }
+
+/// A text, and how many things of annotations there are behind it.
+type Row = (&'static str, usize);
+
+/// Whether a text declares what its row says.
+fn is_so(alloc: Global, row: &Row) -> bool {
+    found(alloc, row.0) == Ok(Answer::Declared(row.1, 7))
+}
+
+/// The first text that declares something else.
+fn first_other(alloc: Global, rows: &[Row]) -> Option<&'static str> {
+    for row in rows {
+        if !is_so(alloc, row) {
+            return Some(row.0);
+        }
+    }
+    None
+}
+
+const DECLARED: &[Row] = &[
+    ("predicate fresh(int x);", 12),
+    ("predicate fresh() = true;", 12),
+    ("predicate fresh(int x) = owned(?v) &*& v == x;", 12),
+    (
+        "predicate fresh(list<int> ys) = fresh(ys) &*& late(?z);",
+        12,
+    ),
+    ("predicate owned(int x);", 11),
+    ("predicate owned(int x) = x == 0 ? emp : owned(x - 1);", 11),
+    (
+        "predicate_ctor made(int x)(int y) = owned(x) &*& held(y)(true);",
+        12,
+    ),
+    ("predicate_family_instance part(g)(int x) = owned(x);", 11),
+];
 
 /// What is declared.
 #[test]
-fn declared(rt: HostRuntime) -> Result<(), Fail> {
-    for (text, count) in [
-        ("predicate fresh(int x);", 12),
-        ("predicate fresh() = true;", 12),
-        ("predicate fresh(int x) = owned(?v) &*& v == x;", 12),
-        (
-            "predicate fresh(list<int> ys) = fresh(ys) &*& late(?z);",
-            12,
-        ),
-        ("predicate owned(int x);", 11),
-        ("predicate owned(int x) = x == 0 ? emp : owned(x - 1);", 11),
-        (
-            "predicate_ctor made(int x)(int y) = owned(x) &*& held(y)(true);",
-            12,
-        ),
-        ("predicate_family_instance part(g)(int x) = owned(x);", 11),
-    ] {
-        assert!(rt;
-            found(rt.alloc(), text) == Ok(Answer::Declared(count, 7)),
-            "at {text}"
-        );
-    }
-    Ok(())
+fn declared(rt: HostRuntime) {
+    none_differs(&rt, first_other(rt.alloc(), DECLARED));
 }
+
+/// A text, one behind it, and what comes of that.
+type AgainRow = (&'static str, &'static str, Answer);
+
+/// Whether a text behind another comes to what its row says.
+fn is_so_again(alloc: Global, row: &AgainRow) -> bool {
+    found_behind(alloc, row.0, row.1) == Ok(row.2)
+}
+
+/// The first text behind another that comes to something else.
+fn first_other_again(alloc: Global, rows: &[AgainRow]) -> Option<&'static str> {
+    for row in rows {
+        if !is_so_again(alloc, row) {
+            return Some(row.1);
+        }
+    }
+    None
+}
+
+const AGAIN: &[AgainRow] = &[
+    (
+        "predicate owned(int x);",
+        "predicate owned(int y) = y == 1;",
+        Answer::Declared(11, 7),
+    ),
+    (
+        "predicate owned(int x) = true;",
+        "predicate owned(int x);",
+        Answer::Declared(11, 7),
+    ),
+];
 
 /// What may stand behind one another.
 #[test]
-fn declared_again(rt: HostRuntime) -> Result<(), Fail> {
-    for (first, text) in [
-        (
-            "predicate owned(int x);",
-            "predicate owned(int y) = y == 1;",
-        ),
-        ("predicate owned(int x) = true;", "predicate owned(int x);"),
-    ] {
-        let answer = found_behind(rt.alloc(), first, text);
-        assert!(rt; answer == Ok(Answer::Declared(11, 7)), "at {text}");
-    }
-    Ok(())
+fn declared_again(rt: HostRuntime) {
+    none_differs(&rt, first_other_again(rt.alloc(), AGAIN));
 }
+
+const NOT_AGAIN: &[AgainRow] = &[
+    (
+        "predicate owned(int x);",
+        "predicate owned(int x);",
+        Answer::Refused(Rule::Name, 11),
+    ),
+    (
+        "predicate owned(int x) = true;",
+        "predicate owned(int x) = true;",
+        Answer::Refused(Rule::Name, 11),
+    ),
+    (
+        "predicate_family_instance part(g)(int x) = true;",
+        "predicate_family_instance part(g)(int x) = true;",
+        Answer::Refused(Rule::Name, 32),
+    ),
+];
 
 /// What may not.
 #[test]
-fn refused_again(rt: HostRuntime) -> Result<(), Fail> {
-    for (first, text, column) in [
-        ("predicate owned(int x);", "predicate owned(int x);", 11),
-        (
-            "predicate owned(int x) = true;",
-            "predicate owned(int x) = true;",
-            11,
-        ),
-        (
-            "predicate_family_instance part(g)(int x) = true;",
-            "predicate_family_instance part(g)(int x) = true;",
-            32,
-        ),
-    ] {
-        let answer = found_behind(rt.alloc(), first, text);
-        assert!(rt;
-            answer == Ok(Answer::Refused(Rule::Name, column)),
-            "at {text}"
-        );
-    }
-    Ok(())
+fn refused_again(rt: HostRuntime) {
+    none_differs(&rt, first_other_again(rt.alloc(), NOT_AGAIN));
 }
+
+/// A text, the rule that refuses it and the column.
+type RefusalRow = (&'static str, Rule, u32);
+
+/// Whether a text is refused as its row says.
+fn is_refused(alloc: Global, row: &RefusalRow) -> bool {
+    found(alloc, row.0) == Ok(Answer::Refused(row.1, row.2))
+}
+
+/// The first text that is not refused as its row says.
+fn first_not_refused(alloc: Global, rows: &[RefusalRow]) -> Option<&'static str> {
+    for row in rows {
+        if !is_refused(alloc, row) {
+            return Some(row.0);
+        }
+    }
+    None
+}
+
+const REFUSED: &[RefusalRow] = &[
+    ("predicate owned(bool x);", Rule::Name, 11),
+    ("predicate owned(int x, int y) = true;", Rule::Name, 11),
+    ("predicate len(int x);", Rule::Name, 11),
+    ("predicate g(int x);", Rule::GhostInReal, 11),
+    ("predicate fresh(int i);", Rule::GhostInReal, 21),
+    ("predicate fresh(nothing x);", Rule::Name, 17),
+    ("predicate fresh(int x) = x;", Rule::Typing, 26),
+    ("predicate fresh(int x) = result == x;", Rule::Name, 26),
+    ("predicate fresh(int x) = fresh(true);", Rule::Typing, 32),
+    ("predicate_ctor held(int x)(int y) = true;", Rule::Name, 16),
+    (
+        "predicate_ctor made(int x)(int y) = owned(b);",
+        Rule::Typing,
+        43,
+    ),
+    (
+        "predicate_family_instance owned(g)(int x) = true;",
+        Rule::Name,
+        27,
+    ),
+    (
+        "predicate_family_instance part(len)(int x) = true;",
+        Rule::Name,
+        32,
+    ),
+    (
+        "predicate_family_instance part(g)(bool x) = true;",
+        Rule::Name,
+        27,
+    ),
+    (
+        "predicate_family_instance part(g)(int x) = x;",
+        Rule::Typing,
+        44,
+    ),
+];
 
 /// What is refused.
 #[test]
-fn refused(rt: HostRuntime) -> Result<(), Fail> {
-    for (text, rule, column) in [
-        ("predicate owned(bool x);", Rule::Name, 11),
-        ("predicate owned(int x, int y) = true;", Rule::Name, 11),
-        ("predicate len(int x);", Rule::Name, 11),
-        ("predicate g(int x);", Rule::GhostInReal, 11),
-        ("predicate fresh(int i);", Rule::GhostInReal, 21),
-        ("predicate fresh(nothing x);", Rule::Name, 17),
-        ("predicate fresh(int x) = x;", Rule::Typing, 26),
-        ("predicate fresh(int x) = result == x;", Rule::Name, 26),
-        ("predicate fresh(int x) = fresh(true);", Rule::Typing, 32),
-        ("predicate_ctor held(int x)(int y) = true;", Rule::Name, 16),
-        (
-            "predicate_ctor made(int x)(int y) = owned(b);",
-            Rule::Typing,
-            43,
-        ),
-        (
-            "predicate_family_instance owned(g)(int x) = true;",
-            Rule::Name,
-            27,
-        ),
-        (
-            "predicate_family_instance part(len)(int x) = true;",
-            Rule::Name,
-            32,
-        ),
-        (
-            "predicate_family_instance part(g)(bool x) = true;",
-            Rule::Name,
-            27,
-        ),
-        (
-            "predicate_family_instance part(g)(int x) = x;",
-            Rule::Typing,
-            44,
-        ),
-    ] {
-        assert!(rt;
-            found(rt.alloc(), text) == Ok(Answer::Refused(rule, column)),
-            "at {text}"
-        );
-    }
-    Ok(())
-}
-
-/// One sort.
-fn one(alloc: Global, head: Head) -> Result<SortList, Stop> {
-    let mut sorts = SortList::new(alloc);
-    sorts.push(Sort::leaf(alloc, head))?;
-    Ok(sorts)
+fn refused(rt: HostRuntime) {
+    none_differs(&rt, first_not_refused(rt.alloc(), REFUSED));
 }
 
 /// Whether the lists of two sorts are alike.
-fn are_alike(alloc: Global, first: Head, second: Head) -> Result<bool, Stop> {
+fn are_alike(alloc: Global, first: Head, second: Head) -> Result<bool, Memory> {
     let first = one(alloc, first)?;
     let second = one(alloc, second)?;
     Ok(are_same(&first, &second))
@@ -220,13 +256,10 @@ fn are_alike(alloc: Global, first: Head, second: Head) -> Result<bool, Stop> {
 
 /// Sorts are alike up to what pointers tell.
 #[test]
-fn sorts_are_compared(rt: HostRuntime) -> Result<(), Fail> {
+fn sorts_are_compared(rt: HostRuntime) {
     let told = Head::Pointer(Some(1));
     let untold = Head::Pointer(None);
-    assert!(rt; are_alike(rt.alloc(), told, untold) == Ok(true), "pointers");
-    assert!(rt;
-        are_alike(rt.alloc(), Head::Int, Head::Bool) == Ok(false),
-        "others"
-    );
-    Ok(())
+    assert_eq!(rt; are_alike(rt.alloc(), told, untold), Ok(true), "pointers");
+    let others = are_alike(rt.alloc(), Head::Int, Head::Bool);
+    assert_eq!(rt; others, Ok(false), "others");
 }
