@@ -6,9 +6,15 @@
 #[cfg(test)]
 mod bodies;
 #[cfg(test)]
+mod declared;
+#[cfg(test)]
 mod expressions;
 #[cfg(test)]
 mod order;
+#[cfg(test)]
+mod printing;
+#[cfg(test)]
+mod rows;
 #[cfg(test)]
 mod steps;
 #[cfg(test)]
