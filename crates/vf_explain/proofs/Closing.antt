@@ -1,20 +1,17 @@
 -- Bounds that are added one after the other, up to the first that closes a cycle below 0.
-use Rattle.std.proofs.Common.{◌≡◌, ℕ, zero, suc, ◌+◌, ◌<◌, ◌≤◌, ◌⊎◌, inl, inr, List, [], ◌∷◌, ◌++◌, length, Option, Some, refl, sym, ◌∙◌, ap, subst, arith, take_all, Bool, true, false, ◌^◌}
-use Rattle.std.specs.Prelude.{ℤ, pos, ◌+ℤ◌, ◌≤ℤ◌, ◌<ℤ◌, Contains, slice_get, slice_index, slice_index_or, take, MatchOption, MatchBool}
+use Rattle.std.proofs.Common.{◌≡◌, ℕ, zero, suc, ◌+◌, ◌<◌, ◌≤◌, ◌⊎◌, inl, inr, List, [], ◌∷◌, ◌++◌, length, Option, Some, refl, sym, ◌∙◌, ap, subst, arith, take_all, Bool, true, false}
+use Rattle.std.specs.Prelude.{ℤ, pos, ◌+ℤ◌, ◌≤ℤ◌, ◌<ℤ◌, Contains, slice_get, slice_index, take, MatchOption, MatchBool}
 use Rattle.std.proofs.lemmas.Int.{ints, by_lt_z}
 use Rattle.std.proofs.lemmas.List.{take_more}
-use Rattle.std.proofs.lemmas.List.Elements.{Contains-push_cases, Contains-get_or}
-use Rattle.std.proofs.lemmas.Option.{get_or_from_slice_get, slice_get_within, slice_get-get_or}
-use Rattle.std.proofs.Math.Decide.{ℕ_discrete}
-use Rattle.vf_table.specs.declared.node.Node.{Node}
-use Rattle.vf_table.specs.Tables.{IsInteger}
+use Rattle.std.proofs.lemmas.List.Elements.{Contains-push_cases}
+use Rattle.std.proofs.lemmas.Option.{get_or_from_slice_get, slice_get_within}
 use Rattle.vf_arith.specs.declared.bounds.Edge.{Edge}
-use Rattle.vf_arith.specs.Paths.{Path, path_none, path_edge, IsLeast, HasNegativeCycle, IsSmall}
+use Rattle.vf_arith.specs.Paths.{Path, path_none, path_edge, IsLeast, HasNegativeCycle}
 use Rattle.vf_arith.proofs.Distances.{join}
 use Rattle.vf_refute.specs.declared.steps.Derived.{Derived}
 use Rattle.vf_refute.specs.declared.steps.Derived.TheVariants.{AreWithin}
 use Rattle.vf_refute.specs.Refutations.{HasDerived}
-use Rattle.vf_explain.specs.Reached.{AreOfIntegers, AreReasons, DoesClose, StaysOpen}
+use Rattle.vf_explain.specs.Reached.{AreReasons, DoesClose, StaysOpen}
 
 -- a path with one edge more is at least one without it, or at least one that goes over it once
 pub record Once (edges : List Edge) (e : Edge) (x y : ℕ) (c : ℤ) : Type 0 where
@@ -90,9 +87,9 @@ pub all_added : (all edges : List Edge) (i n : ℕ) → n ≤ i → n ≡ length
 all_added all edges i n l e is = is ∙ take_all i all (omega (arith, l, e))
 
 -- an edge closes a cycle below 0 by the least path back, or none
-pub by_least : {edges : List Edge} (e : Edge) (b : Bool) (back : ℤ) → IsLeast edges e.to e.from back → IsSmall (2 ^ 125) back → (b ≡ true → (back +ℤ e.most) <ℤ pos 0) → ((back +ℤ e.most) <ℤ pos 0 → b ≡ true) → MatchBool b (DoesClose edges e) (StaysOpen edges e)
-by_least e true back least small f g = record { back = back; least = least; small = small; below = f refl }
-by_least e false back least small f g = λ c p. by_lt_z (c +ℤ e.most) (pos 0)
+pub by_least : {edges : List Edge} (e : Edge) (b : Bool) (back : ℤ) → IsLeast edges e.to e.from back → (b ≡ true → (back +ℤ e.most) <ℤ pos 0) → ((back +ℤ e.most) <ℤ pos 0 → b ≡ true) → MatchBool b (DoesClose edges e) (StaysOpen edges e)
+by_least e true back least f g = record { back = back; least = least; below = f refl }
+by_least e false back least f g = λ c p. by_lt_z (c +ℤ e.most) (pos 0)
     (λ l. let m : back ≤ℤ c = least.least c p in let h : false ≡ true = g (omega (arith, ints, l, m)) in absurd cc)
     (λ k. k)
 
@@ -105,22 +102,6 @@ told_false b P Q e h = subst (λ z. MatchBool z P Q) e h
 
 pub told_true : (b : Bool) (P Q : Type 0) → b ≡ true → MatchBool b P Q → P
 told_true b P Q e h = subst (λ z. MatchBool z P Q) e h
-
--- where each edge was looked at, each begins and ends at integer terms
-pub all_of_integers : (nodes : List Node) (edges : List Edge) (i : ℕ) → length edges ≤ i → ((k : ℕ) (e : Edge) → k < i → slice_get edges k ≡ Some e → IsInteger nodes e.from × IsInteger nodes e.to) → AreOfIntegers nodes edges
-all_of_integers nodes edges i l each e m = let k = m.1 in each m.0 e (omega (arith, k, l)) (slice_get-get_or edges m.0 e m.1 ∙ ap Some m.2)
-
--- where one does not, not all do
-pub none_of_integers : (nodes : List Node) (edges : List Edge) (i : ℕ) (d : Edge) → i < length edges → (IsInteger nodes (slice_index_or edges i d).from × IsInteger nodes (slice_index_or edges i d).to → ⊥) → AreOfIntegers nodes edges → ⊥
-none_of_integers nodes edges i d l apart all = apart (all (slice_index_or edges i d) (Contains-get_or edges i d l))
-
--- one edge more begins and ends at integer terms
-pub next_of_integers : (nodes : List Node) (edges : List Edge) (i : ℕ) (d : Edge) → i < length edges → IsInteger nodes (slice_index_or edges i d).from × IsInteger nodes (slice_index_or edges i d).to → ((k : ℕ) (e : Edge) → k < i → slice_get edges k ≡ Some e → IsInteger nodes e.from × IsInteger nodes e.to) → (k : ℕ) (e : Edge) → k < i + 1 → slice_get edges k ≡ Some e → IsInteger nodes e.from × IsInteger nodes e.to
-next_of_integers nodes edges i d l here each k e m there = elim (ℕ_discrete k i) [
-  | yes q ↦ (let same : slice_index_or edges i d ≡ e = ap (λ n. slice_index_or edges n d) (sym q) ∙ get_or_from_slice_get edges k e d there in
-      subst (λ (w : Edge). IsInteger nodes w.from × IsInteger nodes w.to) same here)
-  | no n ↦ each k e (omega (arith, m, n)) there
-]
 
 none_sums : {x y : ℕ} {c : ℤ} → Path [] x y c → pos 0 ≤ℤ c
 none_sums path_none = omega (arith, ints)

@@ -16,7 +16,7 @@ use Rattle.vf_refute.specs.declared.steps.Derived.TheVariants.{AreEqual, AreWith
 use Rattle.vf_refute.specs.Refutations.{HasDerived, IsWithin, IsLevel}
 use Rattle.vf_log.specs.Derivations.{Derivation, HasAdded}
 use Rattle.vf_log.proofs.Continued.{added_has}
-use Rattle.vf_explain.specs.Reached.{AreReasons, IsBoundBy, AreReached, HaveStayed, LeadsOn, IsClosed}
+use Rattle.vf_explain.specs.Reached.{AreReasons, IsBoundBy, IsBoundOver, AreReached, HaveStayed, LeadsOn, IsClosed}
 
 -- what stands at an index is one of a list
 pub edge_in : (es edges : List Edge) (i : ℕ) (d : Edge) → es ≡ edges → i < length edges → Contains edges (slice_index_or es i d)
@@ -26,9 +26,15 @@ edge_in es edges i d e l = subst (λ (z : List Edge). Contains edges (slice_inde
 pub least_one : {edges : List Edge} {x y : ℕ} {c d : ℤ} → IsLeast edges x y c → IsLeast edges x y d → c ≡ d
 least_one {c = c} {d = d} h k = let a : c ≤ℤ d = h.least d k.reached in let b : d ≤ℤ c = k.least c h.reached in omega (arith, ints)
 
--- a weight is below a limit
-pub within : (c d : ℤ) → c ≡ d → IsSmall (2 ^ 125) d → IsWithin (2 ^ 126) c
-within c d e s = record { low = let h = s.low in omega (arith, ints); high = let h = s.high in omega (arith, ints) }
+-- going over an edge and then on, the bound is within the limit
+pub within : (most before last : ℤ) → IsSmall (2 ^ 100) most → IsSmall (2 ^ 125) (before +ℤ last) → IsWithin (2 ^ 126) ((most +ℤ before) +ℤ last)
+within most before last f s =
+    let a = f.low in let b = f.high in let l = s.low in let h = s.high in
+    record { low = omega (arith, ints); high = omega (arith, ints) }
+
+-- and it is that of the edge and of all the rest
+pub regrouped : (most before last : ℤ) → (most +ℤ before) +ℤ last ≡ most +ℤ (before +ℤ last)
+regrouped most before last = omega (arith, ints)
 
 -- an edge leads on where the least bound to its end is not below the way over it
 pub over : {edges : List Edge} {x : ℕ} (e : Edge) {b c : ℤ} → Contains edges e → IsLeast edges x e.from b → IsLeast edges x e.to c → (b +ℤ e.most) ≤ℤ c → IsLeast edges x e.to (b +ℤ e.most)
@@ -57,17 +63,13 @@ set_there (y ∷ ys) (suc n) zero x h = refl
 set_there (y ∷ ys) (suc n) (suc m) x h = set_there ys n m x (λ e. h (ap suc e))
 
 -- one point more is reached
-pub reached_more : (known known' : List Derived) (edges : List Edge) (x : ℕ) (steps : List (Option ℕ)) (to s : ℕ) → ((a : ℕ) (d : Derived) → HasDerived known a d → HasDerived known' a d) → AreReached known edges x steps → IsBoundBy known' edges x to s → to < length steps → AreReached known' edges x (slice_set steps to (Some s))
-reached_more known known' edges x steps to s kept reached new l y r h = elim (ℕ_discrete y to) [
+pub reached_more : (known known' : List Derived) (edges : List Edge) (first : Edge) (steps : List (Option ℕ)) (to s : ℕ) → ((a : ℕ) (d : Derived) → HasDerived known a d → HasDerived known' a d) → AreReached known edges first steps → IsBoundOver known' edges first to s → to < length steps → AreReached known' edges first (slice_set steps to (Some s))
+reached_more known known' edges first steps to s kept reached new l y r h = elim (ℕ_discrete y to) [
   | yes e ↦ (let there : slice_get (slice_set steps to (Some s)) y ≡ Some (Some s) = ap (slice_get (slice_set steps to (Some s))) e ∙ set_here steps to (Some s) l in
       let same : r ≡ s = cc in
-      subst (λ z. IsBoundBy known' edges x z r) (sym e) (subst (λ z. IsBoundBy known' edges x to z) (sym same) new))
-  | no n ↦ (let b = reached y r (sym (set_there steps to y (Some s) n) ∙ h) in record { total = b.total; least = b.least; derived = kept r (AreWithin x y b.total) b.derived })
+      subst (λ z. IsBoundOver known' edges first z r) (sym e) (subst (λ z. IsBoundOver known' edges first to z) (sym same) new))
+  | no n ↦ (let b = reached y r (sym (set_there steps to y (Some s) n) ∙ h) in record { rest = b.rest; least = b.least; derived = kept r (AreWithin first.from y (first.most +ℤ b.rest)) b.derived })
 ]
-
--- reached points go on to be reached by a longer log
-pub reached_kept : (known known' : List Derived) (edges : List Edge) (x : ℕ) (steps : List (Option ℕ)) → ((a : ℕ) (d : Derived) → HasDerived known a d → HasDerived known' a d) → AreReached known edges x steps → AreReached known' edges x steps
-reached_kept known known' edges x steps kept reached y r h = let b = reached y r h in record { total = b.total; least = b.least; derived = kept r (AreWithin x y b.total) b.derived }
 
 -- the points that were reached stay so where one more is
 pub stayed_more : (steps : List (Option ℕ)) (to s : ℕ) → slice_get steps to ≡ Some None → HaveStayed steps (slice_set steps to (Some s))
@@ -182,8 +184,17 @@ own_is_least edges x fine = record {
   least = λ d p. by_lt_z d (pos 0) (λ l. absurd (fine (record { point = x; total = d; cycle = p; below = l }))) (λ k. k);
 }
 
--- at first one point alone was reached
-pub first_reached : (known : List Derived) (edges : List Edge) (x first : ℕ) (steps items : List (Option ℕ)) → (HasNegativeCycle edges → ⊥) → HasDerived known first (AreWithin x x (pos 0)) → steps ≡ items → ((k s : ℕ) → slice_get items k ≡ Some (Some s) → (k ≡ x) × (s ≡ first)) → AreReached known edges x steps
-first_reached known edges x first steps items fine derived same others y s h =
+-- at first one point alone was reached, over the first edge
+pub first_reached : (known : List Derived) (edges : List Edge) (first : Edge) (reason : ℕ) (steps items : List (Option ℕ)) → (HasNegativeCycle edges → ⊥) → HasDerived known reason (AreWithin first.from first.to first.most) → steps ≡ items
+    → ((k s : ℕ) → slice_get items k ≡ Some (Some s) → (k ≡ first.to) × (s ≡ reason)) → AreReached known edges first steps
+first_reached known edges first reason steps items fine derived same others y s h =
     let o = others y s (ap (λ os. slice_get os y) (sym same) ∙ h) in
-    subst (λ z. IsBoundBy known edges x z s) (sym o.0) (subst (λ z. IsBoundBy known edges x x z) (sym o.1) (record { total = pos 0; least = own_is_least edges x fine; derived = derived }))
+    let none : first.most +ℤ pos 0 ≡ first.most = omega (arith, ints) in
+    subst (λ z. IsBoundOver known edges first z s) (sym o.0) (subst (λ z. IsBoundOver known edges first first.to z) (sym o.1)
+    (record { rest = pos 0; least = own_is_least edges first.to fine; derived = subst (λ z. HasDerived known reason (AreWithin first.from first.to z)) (sym none) derived }))
+
+-- over the edge from a point to itself with the number 0, the bound is that of the rest
+pub own_over : {known : List Derived} {edges : List Edge} (own : Edge) {y s : ℕ} → own.most ≡ pos 0 → own.from ≡ own.to → IsBoundOver known edges own y s → IsBoundBy known edges own.from y s
+own_over {known} {edges} own {y} {s} none same b =
+    let rest : own.most +ℤ b.rest ≡ b.rest = omega (arith, ints, none) in
+    record { total = b.rest; least = subst (λ (x : ℕ). IsLeast edges x y b.rest) (sym same) b.least; derived = subst (λ z. HasDerived known s (AreWithin own.from y z)) rest b.derived }

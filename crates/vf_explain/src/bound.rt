@@ -1,13 +1,14 @@
 //! Steps that derive the least bound between two points.
 //!
-//! Points are reached one after the other, each over an edge that is on a least path from the first point to it.
+//! A first edge leads to the first point. From there points are reached one after the other, each over an edge that is
+//! on a least path to it.
 
 ghost use Rattle.std.specs.Prelude.{◌≡◌, ◌<◌, ◌^◌, ◌↔◌, ◌+ℤ◌, ◌≤ℤ◌, IsTrue, ℕ, ℤ, pos, Contains, length, count_by, is_none, Some, slice_get, IfOk, MatchBool, MatchOption};
 ghost use Rattle.vf_table.specs.Tables.{IsInteger};
 ghost use Rattle.vf_arith.specs.Paths.{Path, IsLeast, HasNegativeCycle, IsSmall};
 ghost use Rattle.vf_refute.specs.Refutations.{HasDerived};
 ghost use Rattle.vf_log.specs.Derivations.{IsContinued};
-ghost use Rattle.vf_explain.specs.Reached.{AreReasons, IsBoundBy, AreReached, HaveStayed, LeadsOn, IsLead, IsClosed};
+ghost use Rattle.vf_explain.specs.Reached.{AreReasons, IsBoundBy, IsBoundOver, AreReached, HaveStayed, LeadsOn, IsLead, IsClosed};
 
 use std::alloc::Global;
 use vf_arith::{Bounds, Edge};
@@ -63,26 +64,27 @@ fn reach_over(
     log: &mut Log,
     bounds: &Bounds,
     steps: &mut [Option<u32>],
-    x: u32,
+    first: Edge,
     edge: Edge,
     reason: u32,
 ) -> Result<bool, Memory>
     requires fine { HasNegativeCycle bounds.now.edges → ⊥ }
-    requires point { x < bounds.now.size }
+    requires point { first.to < bounds.now.size }
+    requires first { IsSmall (2 ^ 100) first.most }
     requires long { length steps.old ≡ bounds.now.size }
     requires from { edge.from < bounds.now.size }
     requires to { edge.to < bounds.now.size }
     requires small { IsSmall (2 ^ 100) edge.most }
     requires edge { Contains bounds.now.edges edge }
     requires reason { HasDerived log.old.known reason (Derived.AreWithin edge.from edge.to edge.most) }
-    requires reached { AreReached log.old.known bounds.now.edges x steps.old }
+    requires reached { AreReached log.old.known bounds.now.edges first steps.old }
     ensures continued { IfOk result (λ _. IsContinued log.old log.new) }
-    ensures reached { IfOk result (λ _. AreReached log.new.known bounds.now.edges x steps.new) }
+    ensures reached { IfOk result (λ _. AreReached log.new.known bounds.now.edges first steps.new) }
     ensures long { length steps.new ≡ length steps.old }
     ensures stays { IfOk result (λ _. HaveStayed steps.old steps.new) }
-    ensures told { IfOk result (λ r. MatchBool r (count_by is_none steps.new < count_by is_none steps.old) ((steps.new ≡ steps.old) × (LeadsOn bounds.now.edges x steps.old edge → ⊥))) }
+    ensures told { IfOk result (λ r. MatchBool r (count_by is_none steps.new < count_by is_none steps.old) ((steps.new ≡ steps.old) × (LeadsOn bounds.now.edges first.to steps.old edge → ⊥))) }
 {
-    match leads_on(bounds, steps, x, edge) {
+    match leads_on(bounds, steps, first.to, edge) {
         None => Ok(false),
         Some(step) => {
             steps[edge.to as usize] = Some(log.chain(step, reason)?);
@@ -109,23 +111,24 @@ fn reach_more(
     bounds: &Bounds,
     reasons: &[u32],
     steps: &mut [Option<u32>],
-    x: u32,
+    first: Edge,
 ) -> Result<bool, Memory>
     requires fine { HasNegativeCycle bounds.now.edges → ⊥ }
-    requires point { x < bounds.now.size }
+    requires point { first.to < bounds.now.size }
+    requires first { IsSmall (2 ^ 100) first.most }
     requires long { length steps.old ≡ bounds.now.size }
     requires reasons { AreReasons log.old.known bounds.now.edges reasons.now }
-    requires reached { AreReached log.old.known bounds.now.edges x steps.old }
+    requires reached { AreReached log.old.known bounds.now.edges first steps.old }
     ensures continued { IfOk result (λ _. IsContinued log.old log.new) }
-    ensures reached { IfOk result (λ _. AreReached log.new.known bounds.now.edges x steps.new) }
+    ensures reached { IfOk result (λ _. AreReached log.new.known bounds.now.edges first steps.new) }
     ensures long { length steps.new ≡ length steps.old }
     ensures stays { IfOk result (λ _. HaveStayed steps.old steps.new) }
-    ensures told { IfOk result (λ r. MatchBool r (count_by is_none steps.new < count_by is_none steps.old) ((steps.new ≡ steps.old) × IsClosed bounds.now.edges x steps.old)) }
+    ensures told { IfOk result (λ r. MatchBool r (count_by is_none steps.new < count_by is_none steps.old) ((steps.new ≡ steps.old) × IsClosed bounds.now.edges first.to steps.old)) }
 {
     let mut is_any = false;
     for i in 0..reasons.len() {
         let edge = edge_at(bounds, i);
-        if reach_over(log, bounds, steps, x, edge, reasons[i])? {
+        if reach_over(log, bounds, steps, first, edge, reasons[i])? {
             is_any = true;
         }
     }
@@ -138,26 +141,27 @@ fn reach(
     bounds: &Bounds,
     reasons: &[u32],
     steps: &mut [Option<u32>],
-    x: u32,
+    first: Edge,
     y: u32,
 ) -> Result<u32, Memory>
     requires fine { HasNegativeCycle bounds.now.edges → ⊥ }
-    requires point { x < bounds.now.size }
+    requires point { first.to < bounds.now.size }
     requires goal { y < bounds.now.size }
+    requires first { IsSmall (2 ^ 100) first.most }
     requires long { length steps.old ≡ bounds.now.size }
     requires reasons { AreReasons log.old.known bounds.now.edges reasons.now }
-    requires reached { AreReached log.old.known bounds.now.edges x steps.old }
-    requires begun { (s : ℕ) × (slice_get steps.old x ≡ Some (Some s)) }
-    requires path { (c : ℤ) × IsLeast bounds.now.edges x y c }
+    requires reached { AreReached log.old.known bounds.now.edges first steps.old }
+    requires begun { (s : ℕ) × (slice_get steps.old first.to ≡ Some (Some s)) }
+    requires path { (c : ℤ) × IsLeast bounds.now.edges first.to y c }
     ensures continued { IfOk result (λ _. IsContinued log.old log.new) }
-    ensures derived { IfOk result (λ s. IsBoundBy log.new.known bounds.now.edges x y s) }
+    ensures derived { IfOk result (λ s. IsBoundOver log.new.known bounds.now.edges first y s) }
 {
     loop {
         match step_of(steps, y) {
             Some(step) => return Ok(step),
             None => {}
         }
-        if !reach_more(log, bounds, reasons, steps, x)? {
+        if !reach_more(log, bounds, reasons, steps, first)? {
             unreachable!();
         }
     }
@@ -175,6 +179,32 @@ fn begun(alloc: Global, size: u32, x: u32, step: u32) -> Result<Vec<Option<u32>>
         steps.push(if i == x { Some(step) } else { None })?;
     }
     Ok(steps)
+}
+
+/// Derives the bound of going over a first edge, and then to a point on a least path. A step is given that derives the
+/// edge.
+pub(crate) fn go_over(
+    alloc: Global,
+    log: &mut Log,
+    bounds: &Bounds,
+    reasons: &[u32],
+    first: Edge,
+    reason: u32,
+    y: u32,
+) -> Result<u32, Memory>
+    requires fine { HasNegativeCycle bounds.now.edges → ⊥ }
+    requires point { first.to < bounds.now.size }
+    requires goal { y < bounds.now.size }
+    requires small { IsSmall (2 ^ 100) first.most }
+    requires reasons { AreReasons log.old.known bounds.now.edges reasons.now }
+    requires reason { HasDerived log.old.known reason (Derived.AreWithin first.from first.to first.most) }
+    requires path { (c : ℤ) × IsLeast bounds.now.edges first.to y c }
+    ensures derived { IfOk result (λ s. IsBoundOver log.new.known bounds.now.edges first y s) }
+    ensures continued { IfOk result (λ _. IsContinued log.old log.new) }
+{
+    let mut steps = begun(alloc, bounds.size(), first.to, reason)?;
+    let step = reach(log, bounds, reasons, &mut steps, first, y)?;
+    Ok(step)
 }
 
 /// Derives the bound 0 from a point to itself.
@@ -211,8 +241,12 @@ pub fn why_bound(
     if bounds.bound(x, y).is_none() {
         return Ok(None);
     }
-    let first = derive_own(log, x)?;
-    let mut steps = begun(alloc, bounds.size(), x, first)?;
-    let step = reach(log, bounds, reasons, &mut steps, x, y)?;
+    let reason = derive_own(log, x)?;
+    let own = Edge {
+        from: x,
+        to: x,
+        most: 0,
+    };
+    let step = go_over(alloc, log, bounds, reasons, own, reason, y)?;
     Ok(Some(step))
 }

@@ -1,14 +1,12 @@
 //! Whether steps are such as explanations start from.
 
 ghost use Rattle.std.specs.Prelude.{◌≡◌, ◌↔◌, IsTrue};
-ghost use Rattle.vf_table.specs.Tables.{IsInteger};
 ghost use Rattle.vf_refute.specs.declared.steps.Derived.TheVariants.{AreWithin};
 ghost use Rattle.vf_refute.specs.Refutations.{HasDerived};
-ghost use Rattle.vf_explain.specs.Reached.{AreOfIntegers, AreReasons};
+ghost use Rattle.vf_explain.specs.Reached.{AreReasons};
 
 use vf_arith::Edge;
 use vf_refute::Derived;
-use vf_table::{Node, is_integer};
 
 /// Whether two bounds are one.
 fn is_bound(edge: Edge, x: u32, y: u32, most: i128) -> bool
@@ -36,28 +34,6 @@ pub fn are_reasons(known: &[Derived], edges: &[Edge], reasons: &[u32]) -> bool
     }
     for i in 0..edges.len() {
         if !has_derived(known, reasons[i], edges[i]) {
-            return false;
-        }
-    }
-    true
-}
-
-/// Whether a bound begins and ends at integer terms.
-fn is_of_integers(nodes: &[Node], edge: Edge) -> bool
-    ensures { IsTrue result ↔ (IsInteger nodes.now edge.from × IsInteger nodes.now edge.to) }
-{
-    if !is_integer(nodes, edge.from) {
-        return false;
-    }
-    is_integer(nodes, edge.to)
-}
-
-/// Whether each bound begins and ends at integer terms.
-pub fn are_of_integers(nodes: &[Node], edges: &[Edge]) -> bool
-    ensures { IsTrue result ↔ AreOfIntegers nodes.now edges.now }
-{
-    for i in 0..edges.len() {
-        if !is_of_integers(nodes, edges[i]) {
             return false;
         }
     }

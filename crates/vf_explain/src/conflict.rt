@@ -3,13 +3,12 @@
 //! The bounds are added anew, one after the other, up to the first that closes a cycle below 0.
 
 ghost use Rattle.std.specs.Prelude.{◌≡◌, ◌<◌, ◌^◌, ◌↔◌, ◌+ℤ◌, ◌≤ℤ◌, ◌<ℤ◌, ℕ, ℤ, pos, Contains, IsTrue, IfOk, MatchBool, MatchOption};
-ghost use Rattle.vf_table.specs.Tables.{IsInteger};
 ghost use Rattle.vf_arith.specs.Paths.{Path, IsLeast, HasNegativeCycle, IsSmall};
 ghost use Rattle.vf_refute.specs.Refutations.{HasDerived};
 ghost use Rattle.vf_log.specs.Derivations.{IsContinued};
-ghost use Rattle.vf_explain.specs.Reached.{AreReasons, AreOfIntegers, IsBelowItself, DoesClose, StaysOpen};
+ghost use Rattle.vf_explain.specs.Reached.{AreReasons, IsBelowItself, DoesClose, StaysOpen};
 
-use crate::bound::{edge_at, why_bound};
+use crate::bound::{edge_at, go_over};
 use std::alloc::Global;
 use vf_arith::{Bounds, Edge};
 use vf_base::Memory;
@@ -55,17 +54,11 @@ fn derive_cycle(
     requires small { IsSmall (2 ^ 100) edge.most }
     requires closes { DoesClose bounds.now.edges edge }
     requires reason { HasDerived log.old.known reason (Derived.AreWithin edge.from edge.to edge.most) }
-    requires integer { IsInteger log.old.nodes edge.to }
     ensures below { IfOk result (λ s. IsBelowItself log.new.known s) }
     ensures continued { IfOk result (λ _. IsContinued log.old log.new) }
 {
-    match why_bound(alloc, log, bounds, reasons, edge.to, edge.from)? {
-        Some(way) => {
-            let step = log.chain(way, reason)?;
-            Ok(step)
-        }
-        None => unreachable!(),
-    }
+    let step = go_over(alloc, log, bounds, reasons, edge, reason, edge.from)?;
+    Ok(step)
 }
 
 /// Derives that a point is below itself, and answers the step; none exactly where no cycle of bounds is below 0.
@@ -79,7 +72,6 @@ pub fn why_conflict(
     reasons: &[u32],
 ) -> Result<Option<u32>, Memory>
     requires reasons { AreReasons log.old.known bounds.now.edges reasons.now }
-    requires integers { AreOfIntegers log.old.nodes bounds.now.edges }
     ensures why { IfOk result (λ w. MatchOption w (HasNegativeCycle bounds.now.edges → ⊥) (λ s. HasNegativeCycle bounds.now.edges × IsBelowItself log.new.known s)) }
     ensures continued { IfOk result (λ _. IsContinued log.old log.new) }
 {

@@ -9,5 +9,5 @@ mod checking;
 mod conflict;
 
 pub use bound::why_bound;
-pub use checking::{are_of_integers, are_reasons};
+pub use checking::are_reasons;
 pub use conflict::why_conflict;

@@ -1,6 +1,7 @@
-use Rattle.std.proofs.Common.{◌≡◌, ◌∙◌, Some, None, refl, sym, ap, arith, true, false}
+use Rattle.std.proofs.Common.{◌≡◌, ◌∙◌, Some, None, ◌^◌, refl, sym, ap, subst, arith, true, false}
 use Rattle.std.proofs.lemmas.Int.{ints}
-use Rattle.vf_explain.proofs.Reaching.{least_one, within, over}
+use Rattle.vf_arith.specs.Paths.{IsSmall}
+use Rattle.vf_explain.proofs.Reaching.{least_one, over}
 use Rattle.vf_explain.proofs.bound.leads_on.Goals as goal
 
 pub returns-else-is_over : goal.returns-else-is_over
@@ -23,5 +24,5 @@ returns-then-is_over c =
       reached = c.step_of.ensures ∙ ap Some c.in_ok-step.was;
       missing = c.step_of-2.ensures ∙ ap Some c.in-None.is;
       leads = record { step = c.in_ok-step.step; reached = c.step_of.ensures ∙ ap Some c.in_ok-step.was; missing = λ s q. (let n : Some None ≡ Some (Some s) = sym (c.step_of-2.ensures ∙ ap Some c.in-None.is) ∙ q in absurd cc); before = c.in_ok-before.before; to_it = c.in_ok-before.ensures.least; behind = behind };
-      small = within _ c.in_ok-behind.behind (least_one behind c.in_ok-behind.ensures.least) c.in_ok-behind.ensures.small;
+      small = subst (IsSmall (2 ^ 125)) (sym (least_one behind c.in_ok-behind.ensures.least)) c.in_ok-behind.ensures.small;
     }

@@ -14,7 +14,7 @@ apart s e = absurd cc
 pub unreachable-requires : goal.unreachable-requires
 unreachable-requires c =
     let begun = c.loop-step.invariant.begun in
-    let own = c.loop-step.invariant.reached c.args.x begun.0 begun.1 in
-    let closed = closed_of c.in_ok-reach_more.field-0 _ _ (IsClosed c.args.bounds.now.edges c.args.x c.loop-step.steps) c.if-not-branch.true c.in_ok-reach_more.ensures.told in
-    let there = reached_at_last c.args.bounds.now.edges c.args.x c.args.y c.requires.path.0 own.total c.loop-step.steps c.requires.fine closed c.requires.path.1 own.least begun in
+    let own = c.loop-step.invariant.reached c.args.first.to begun.0 begun.1 in
+    let closed = closed_of c.in_ok-reach_more.field-0 _ _ (IsClosed c.args.bounds.now.edges c.args.first.to c.loop-step.steps) c.if-not-branch.true c.in_ok-reach_more.ensures.told in
+    let there = reached_at_last c.args.bounds.now.edges c.args.first.to c.args.y c.requires.path.0 own.rest c.loop-step.steps c.requires.fine closed c.requires.path.1 own.least begun in
     apart there.0 (sym (c.step_of.ensures ∙ ap Some c.in-None.is) ∙ there.1)

@@ -8,9 +8,9 @@ abbrev pub invariant-loop-step : goal.invariant-loop-step
 invariant-loop-step l = record {
   continued : IsContinued l.fn.log l.log;
   reasons : AreReasons l.log.known l.bounds.edges l.reasons;
-  reached : AreReached l.log.known l.bounds.edges l.x l.steps;
+  reached : AreReached l.log.known l.bounds.edges l.first l.steps;
   long : length l.steps ≡ length l.fn.steps;
-  begun : (s : ℕ) × (slice_get l.steps l.x ≡ Some (Some s));
+  begun : (s : ℕ) × (slice_get l.steps l.first.to ≡ Some (Some s));
 }
 
 abbrev pub decreases-loop-step : goal.decreases-loop-step

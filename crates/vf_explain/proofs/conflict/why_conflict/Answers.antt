@@ -1,5 +1,4 @@
 use Rattle.std.proofs.Common.{◌∙◌, subst, sym, refl, arith, slice_index}
-use Rattle.vf_table.specs.Tables.{IsInteger}
 use Rattle.vf_refute.specs.declared.steps.Derived.TheVariants.{AreWithin}
 use Rattle.vf_refute.specs.Refutations.{HasDerived}
 use Rattle.vf_log.specs.Derivations.{Derivation}
@@ -11,9 +10,6 @@ pub derive_cycle-requires-clause-reasons : goal.derive_cycle-requires-clause-rea
 derive_cycle-requires-clause-reasons c =
     first_reasons c.loop-i.log.known c.args.bounds.now.edges c.loop-i.before.edges c.args.reasons.now c.loop-i.i (let t = c.loop-i-test.true in omega (arith, t)) c.loop-i.invariant.edges
     (subst (λ (l : Derivation). AreReasons l.known c.args.bounds.now.edges c.args.reasons.now) (sym c.loop-i.invariant.log) c.requires.reasons)
-
-pub derive_cycle-requires-clause-integer : goal.derive_cycle-requires-clause-integer
-derive_cycle-requires-clause-integer c = subst (λ (l : Derivation). IsInteger l.nodes c.edge_at-edge.result.to) (sym c.loop-i.invariant.log) ((c.requires.integers c.edge_at-edge.result c.edge_at-edge.ensures.one).1)
 
 pub loop-i-preserved : goal.loop-i-preserved
 loop-i-preserved c = record {
