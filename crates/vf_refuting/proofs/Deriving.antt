@@ -3,7 +3,7 @@ use Rattle.std.proofs.Common.{◌≡◌, ℕ, inl, List, Some, refl, sym, subst,
 use Rattle.std.specs.Prelude.{ℤ, pos, neg_ℤ, ◌^◌, ◌+ℤ◌, ◌≤ℤ◌}
 use Rattle.std.proofs.lemmas.Int.{ints, by_lt_z}
 use Rattle.vf_table.specs.declared.node.Node.{Node}
-use Rattle.vf_table.specs.Tables.{IsOfIntegers, IsInteger, IsNumber, IsPlus}
+use Rattle.vf_table.specs.Tables.{IsInteger, IsNumber}
 use Rattle.vf_arith.specs.declared.bounds.Edge.{Edge}
 use Rattle.vf_arith.specs.Paths.{IsLeast, HasNegativeCycle, IsSmall}
 use Rattle.vf_arith.proofs.Distances.{join}
@@ -44,12 +44,6 @@ integer_later x h i = subst (λ (ns : List Node). IsInteger ns x) (sym h.nodes) 
 
 pub offset_later : {l m : Derivation} (a o q : ℕ) (c : ℤ) → IsContinued l m → IsOffset l.nodes a o q c → IsOffset m.nodes a o q c
 offset_later a o q c h i = subst (λ (ns : List Node). IsOffset ns a o q c) (sym h.nodes) i
-
-pub number_integer : (nodes : List Node) (a : ℕ) (c : ℤ) → IsNumber nodes a c → IsInteger nodes a
-number_integer nodes a c p = (p.0, p.1, subst IsOfIntegers (sym p.2) tt)
-
-pub plus_integer : {nodes : List Node} {a q : ℕ} {c : ℤ} → IsPlus nodes a q c → IsInteger nodes a
-plus_integer p = (p.node, p.found, subst IsOfIntegers (sym p.head) tt)
 
 pub number_later : {l m : Derivation} (a : ℕ) (c : ℤ) → IsContinued l m → IsNumber l.nodes a c → IsNumber m.nodes a c
 number_later a c h p = subst (λ (ns : List Node). IsNumber ns a c) (sym h.nodes) p

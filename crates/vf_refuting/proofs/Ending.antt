@@ -65,9 +65,6 @@ pub nothing_within : (known : List Derived) (edges : List Edge) (reasons : List 
 nothing_within known edges reasons m r =
     subst (λ (l : List Edge). bounds_.AreReasons known l reasons) (sym m) (subst (λ (l : List ℕ). bounds_.AreReasons known [] l) (sym r) (record { long = refl; each = λ i e h. absurd cc }))
 
-pub nothing_integer : (nodes : List Node) (edges : List Edge) → edges ≡ [] → bounds_.AreOfIntegers nodes edges
-nothing_integer nodes edges m = subst (λ (l : List Edge). bounds_.AreOfIntegers nodes l) (sym m) (λ e h. absurd (let l = h.1 in omega (arith, l)))
-
 -- all that the closure holds is there at last
 pub all_complete : (a b c d : Run) → GoesOn a b → GoesOn b c → GoesOn c d → ((l : Fact) → Contains a.log.facts l → HasFact b.classes.merged b.bounds.edges l) → ((x : ℕ) → x < length b.log.nodes → HasTerm b.log.nodes c.bounds.edges x) → AllAgree d.classes.nodes d.classes.merged d.bounds.edges → AreComplete d.classes.nodes d.log.facts d.classes.merged d.bounds.edges
 all_complete a b c d g h k has terms settled = record {

@@ -1,8 +1,7 @@
 -- A run goes on.
 use Rattle.std.proofs.Common.{◌≡◌, ℕ, zero, suc, ◌<◌, ◌⊎◌, inl, inr, List, [], ◌∷◌, ◌++◌, length, Some, refl, sym, ◌∙◌, ap, subst, arith, length-append}
 use Rattle.std.specs.Prelude.{slice_get, slice_index, Contains}
-use Rattle.std.proofs.lemmas.Option.{slice_get_within}
-use Rattle.std.proofs.lemmas.List.Elements.{Contains-append_left, Contains-push_cases}
+use Rattle.std.proofs.lemmas.List.Elements.{Contains-append_left}
 use Rattle.vf_table.specs.declared.node.Node.{Node}
 use Rattle.vf_table.specs.Tables.{IsInteger}
 use Rattle.vf_congruence.specs.Explained as equalities
@@ -76,7 +75,6 @@ merge_goes before after a b r h d log nodes merged bounds equal within = record 
     size = ap (λ w. w.size) bounds ∙ h.size ∙ ap length (sym nodes);
     equal = subst (λ (l : Derivation). equalities.AreReasons l.known after.classes.merged after.equal.items) (sym log) (equal_pushed before.log.known before.classes.merged after.classes.merged before.equal.items after.equal.items a b r h.equal merged equal d);
     within = subst (λ (l : Derivation). bounds_.AreReasons l.known after.bounds.edges after.within.items) (sym log) (rw bounds (rw within h.within));
-    integers = subst (λ (l : Derivation). bounds_.AreOfIntegers l.nodes after.bounds.edges) (sym log) (rw bounds h.integers);
   };
   nodes = nodes;
   log = subst (λ (l : Derivation). IsContinued before.log l) (sym log) (continued_none before.log);
@@ -85,17 +83,13 @@ merge_goes before after a b r h d log nodes merged bounds equal within = record 
 }
 
 -- one bound more is added
-pub add_goes : (before after : Run) (e : Edge) (r : ℕ) → IsRun before → IsInteger before.log.nodes e.from → IsInteger before.log.nodes e.to → HasDerived before.log.known r (AreWithin e.from e.to e.most) → after.log ≡ before.log → after.classes ≡ before.classes → after.bounds.size ≡ before.bounds.size → after.bounds.edges ≡ before.bounds.edges ++ e ∷ [] → after.equal.items ≡ before.equal.items → after.within.items ≡ before.within.items ++ r ∷ [] → GoesOn before after
-add_goes before after e r h i j d log classes size edges equal within = record {
+pub add_goes : (before after : Run) (e : Edge) (r : ℕ) → IsRun before → HasDerived before.log.known r (AreWithin e.from e.to e.most) → after.log ≡ before.log → after.classes ≡ before.classes → after.bounds.size ≡ before.bounds.size → after.bounds.edges ≡ before.bounds.edges ++ e ∷ [] → after.equal.items ≡ before.equal.items → after.within.items ≡ before.within.items ++ r ∷ [] → GoesOn before after
+add_goes before after e r h d log classes size edges equal within = record {
   is = record {
     terms = rw log (rw classes h.terms);
     size = size ∙ h.size ∙ sym (ap (λ w. length w.nodes) classes);
     equal = rw log (rw classes (rw equal h.equal));
     within = subst (λ (l : Derivation). bounds_.AreReasons l.known after.bounds.edges after.within.items) (sym log) (within_pushed before.log.known before.bounds.edges after.bounds.edges before.within.items after.within.items e r h.within edges within d);
-    integers = subst (λ (l : Derivation). bounds_.AreOfIntegers l.nodes after.bounds.edges) (sym log) (λ f m. elim (Contains-push_cases before.bounds.edges e f (subst (λ (l : List Edge). Contains l f) edges m)) [
-      | inl k ↦ h.integers f k
-      | inr g ↦ subst (λ (w : Edge). IsInteger before.log.nodes w.from × IsInteger before.log.nodes w.to) g (i, j)
-    ]);
   };
   nodes = ap (λ w. w.nodes) classes;
   log = subst (λ (l : Derivation). IsContinued before.log l) (sym log) (continued_none before.log);
@@ -111,7 +105,6 @@ logged before log h on = record {
     size = h.size;
     equal = record { long = h.equal.long; each = λ i x y there. on.kept (slice_index before.equal.items i) (AreEqual x y) (h.equal.each i x y there) };
     within = record { long = h.within.long; each = λ i e there. on.kept (slice_index before.within.items i) (AreWithin e.from e.to e.most) (h.within.each i e there) };
-    integers = subst (λ (ns : List Node). bounds_.AreOfIntegers ns before.bounds.edges) (sym on.nodes) h.integers;
   };
   nodes = refl;
   log = on;
@@ -131,9 +124,9 @@ goes_more g h = record {
   edges = λ e m. h.edges e (g.edges e m);
 }
 
--- an integer term is a term of the classes
-pub integer_within : (run : Run) (x : ℕ) → IsRun run → IsInteger run.log.nodes x → x < run.bounds.size
-integer_within run x h i = let l = slice_get_within run.log.nodes x i.0 i.1 in let e = h.terms.long in let s = h.size in omega (arith, l, e, s)
+-- a term of the log is one of the classes
+pub term_within : (run : Run) (x : ℕ) → IsRun run → x < length run.log.nodes → x < length run.classes.nodes
+term_within run x h l = let e = h.terms.long in omega (arith, l, e)
 
 -- an integer term of the classes is one of the log
 pub run_integer : (run : Run) (x : ℕ) → IsRun run → IsInteger run.classes.nodes x → IsInteger run.log.nodes x

@@ -1,7 +1,5 @@
 -- Classes and bounds beside a log that derives all that they were given.
 use Rattle.std.specs.Prelude.{◌≡◌, ℕ, ℤ, neg_ℤ, List, length, Contains}
-use Rattle.vf_table.specs.declared.node.Node.{Node}
-use Rattle.vf_table.specs.Tables.{IsInteger, IsPlus}
 use Rattle.vf_congruence.specs.Congruence.{WereMerged}
 use Rattle.vf_congruence.specs.Explained as equalities
 use Rattle.vf_arith.specs.declared.bounds.Edge.{Edge}
@@ -13,17 +11,12 @@ use Rattle.vf_log.specs.Derivations.{IsContinued}
 use Rattle.vf_explain.specs.Reached as bounds_
 use Rattle.vf_refuting.specs.declared.run.Run.{Run}
 
--- the part of each sum is an integer term
-abbrev pub SumsAreOfIntegers : List Node → Type 0
-SumsAreOfIntegers nodes = (a q : ℕ) (c : ℤ) → IsPlus nodes a q c → IsInteger nodes q
-
 -- classes and bounds are over the terms of the log, and all that they were given was derived
 pub record IsRun (run : Run) : Type 0 where
   pub terms : HaveSameTerms run.classes.nodes run.log.nodes
   pub size : run.bounds.size ≡ length run.classes.nodes
   pub equal : equalities.AreReasons run.log.known run.classes.merged run.equal.items
   pub within : bounds_.AreReasons run.log.known run.bounds.edges run.within.items
-  pub integers : bounds_.AreOfIntegers run.log.nodes run.bounds.edges
 
 -- a run goes on: the question stays, and all that was given and derived is still there
 pub record GoesOn (before after : Run) : Type 0 where

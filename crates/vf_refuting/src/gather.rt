@@ -1,12 +1,12 @@
 //! What facts and terms give.
 
 ghost use Rattle.std.specs.Prelude.{◌≡◌, ◌<◌, ◌^◌, ◌↔◌, ℕ, ℤ, pos, Some, slice_get, length, All, Contains, IsTrue, IfOk, MatchOption};
-ghost use Rattle.vf_table.specs.Tables.{PartsAreBelow, IsInteger, IsNumber, IsPlus};
+ghost use Rattle.vf_table.specs.Tables.{PartsAreBelow, IsNumber, IsPlus};
 ghost use Rattle.vf_arith.specs.Paths.{IsSmall};
 ghost use Rattle.vf_refute.specs.Refutations.{IsOffset};
 ghost use Rattle.vf_log.specs.Derivations.{IsContinued};
 ghost use Rattle.vf_ground.specs.Held.{HasBoth, HasFact, HasTerm, IsFine, HasSmallNumber};
-ghost use Rattle.vf_refuting.specs.Runs.{SumsAreOfIntegers, IsRun, GoesOn, HaveDerivedBoth};
+ghost use Rattle.vf_refuting.specs.Runs.{IsRun, GoesOn, HaveDerivedBoth};
 
 use crate::run::{Both, Run, add, add_both, merge};
 use std::alloc::Global;
@@ -14,30 +14,7 @@ use vf_arith::Edge;
 use vf_base::Memory;
 use vf_log::Log;
 use vf_refute::Fact;
-use vf_table::{Node, is_integer, is_zero, number_at, shift_at};
-
-/// Whether the part of a term, if that is a sum, is an integer term.
-fn is_sum_of_integers(nodes: &[Node], a: u32) -> bool
-    ensures { IsTrue result ↔ ((q : ℕ) (c : ℤ) → IsPlus nodes.now a q c → IsInteger nodes.now q) }
-{
-    match shift_at(nodes, a) {
-        Some(shift) => is_integer(nodes, shift.part),
-        None => true,
-    }
-}
-
-/// Whether the part of each sum is an integer term. Where there are more terms than numbers of terms, no.
-pub fn sums_are_of_integers(nodes: &[Node]) -> bool
-    requires few { length nodes.now < 2 ^ 32 }
-    ensures { IsTrue result ↔ SumsAreOfIntegers nodes.now }
-{
-    for a in 0..nodes.len() as u32 {
-        if !is_sum_of_integers(nodes, a) {
-            return false;
-        }
-    }
-    true
-}
+use vf_table::{is_zero, number_at, shift_at};
 
 /// Gives an equality that is a fact.
 fn add_equality(run: &mut Run, i: u32, a: u32, b: u32) -> Result<(), Memory>
@@ -176,8 +153,8 @@ fn add_offset(
 ) -> Result<(), Memory>
     requires run { IsRun run.old }
     requires offset { IsOffset run.old.log.nodes a zero other by }
-    requires left { IsInteger run.old.log.nodes a }
-    requires right { IsInteger run.old.log.nodes other }
+    requires left { a < length run.old.classes.nodes }
+    requires right { other < length run.old.classes.nodes }
     requires small { IsSmall (2 ^ 100) by }
     ensures goes { IfOk result (λ _. GoesOn run.old run.new) }
     ensures has { IfOk result (λ _. HasBoth run.new.bounds.edges a other by) }
@@ -191,7 +168,7 @@ fn add_offset(
 fn add_as_sum(alloc: Global, run: &mut Run, a: u32) -> Result<(), Memory>
     requires run { IsRun run.old }
     requires small { All HasSmallNumber run.old.log.nodes }
-    requires sums { SumsAreOfIntegers run.old.log.nodes }
+    requires parts { PartsAreBelow run.old.log.nodes (length run.old.log.nodes) }
     ensures goes { IfOk result (λ _. GoesOn run.old run.new) }
     ensures has { IfOk result (λ _. (q : ℕ) (c : ℤ) → IsPlus run.old.log.nodes a q c → HasBoth run.new.bounds.edges a q c) }
 {
@@ -253,7 +230,7 @@ fn add_as_number(alloc: Global, run: &mut Run, a: u32) -> Result<(), Memory>
 fn add_term(alloc: Global, run: &mut Run, a: u32) -> Result<(), Memory>
     requires run { IsRun run.old }
     requires small { All HasSmallNumber run.old.log.nodes }
-    requires sums { SumsAreOfIntegers run.old.log.nodes }
+    requires parts { PartsAreBelow run.old.log.nodes (length run.old.log.nodes) }
     ensures goes { IfOk result (λ _. GoesOn run.old run.new) }
     ensures has { IfOk result (λ _. HasTerm run.old.log.nodes run.new.bounds.edges a) }
 {
@@ -266,7 +243,7 @@ fn add_term(alloc: Global, run: &mut Run, a: u32) -> Result<(), Memory>
 pub(crate) fn add_terms(alloc: Global, run: &mut Run) -> Result<(), Memory>
     requires run { IsRun run.old }
     requires small { All HasSmallNumber run.old.log.nodes }
-    requires sums { SumsAreOfIntegers run.old.log.nodes }
+    requires parts { PartsAreBelow run.old.log.nodes (length run.old.log.nodes) }
     ensures goes { IfOk result (λ _. GoesOn run.old run.new) }
     ensures has { IfOk result (λ _. (a : ℕ) → a < length run.old.log.nodes → HasTerm run.old.log.nodes run.new.bounds.edges a) }
 {

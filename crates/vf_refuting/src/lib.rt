@@ -9,5 +9,4 @@ mod gather;
 mod run;
 mod verdict;
 
-pub use gather::sums_are_of_integers;
 pub use verdict::refutation;

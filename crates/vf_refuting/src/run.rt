@@ -1,7 +1,6 @@
 //! Classes and bounds beside a log.
 
 ghost use Rattle.std.specs.Prelude.{◌≡◌, ◌<◌, ◌^◌, ◌≤ℤ◌, ℤ, pos, length, Contains, IfOk};
-ghost use Rattle.vf_table.specs.Tables.{IsInteger};
 ghost use Rattle.vf_congruence.specs.Congruence.{Congruent, WereMerged};
 ghost use Rattle.vf_arith.specs.Paths.{Path, HasNegativeCycle, IsSmall};
 ghost use Rattle.vf_refute.specs.Refutations.{HasDerived};
@@ -55,8 +54,8 @@ pub(crate) fn merge(run: &mut Run, a: u32, b: u32, reason: u32) -> Result<(), Me
 #[tactic(auto, using(crate::proofs::Running::add_goes))]
 pub(crate) fn add(alloc: Global, run: &mut Run, edge: Edge, reason: u32) -> Result<(), Memory>
     requires run { IsRun run.old }
-    requires from { IsInteger run.old.log.nodes edge.from }
-    requires to { IsInteger run.old.log.nodes edge.to }
+    requires from { edge.from < length run.old.classes.nodes }
+    requires to { edge.to < length run.old.classes.nodes }
     requires small { IsSmall (2 ^ 100) edge.most }
     requires reason { HasDerived run.old.log.known reason (Derived.AreWithin edge.from edge.to edge.most) }
     ensures goes { IfOk result (λ _. GoesOn run.old run.new) }
@@ -81,8 +80,8 @@ pub(crate) fn add_both(
     reasons: Both,
 ) -> Result<(), Memory>
     requires run { IsRun run.old }
-    requires left { IsInteger run.old.log.nodes x }
-    requires right { IsInteger run.old.log.nodes y }
+    requires left { x < length run.old.classes.nodes }
+    requires right { y < length run.old.classes.nodes }
     requires small { IsSmall (2 ^ 100) by }
     requires reasons { HaveDerivedBoth run.old.log.known x y by reasons.above reasons.below }
     ensures goes { IfOk result (λ _. GoesOn run.old run.new) }

@@ -6,7 +6,7 @@ ghost use Rattle.vf_arith.specs.Paths.{HasNegativeCycle};
 ghost use Rattle.vf_refute.specs.Closure.{Conflict};
 ghost use Rattle.vf_refute.specs.Refutations.{IsConflict, IsRefutation};
 ghost use Rattle.vf_ground.specs.Held.{AreComplete, IsFine, HasSmallNumber, IsContradicted, Clash};
-ghost use Rattle.vf_refuting.specs.Runs.{SumsAreOfIntegers, IsRun, GoesOn};
+ghost use Rattle.vf_refuting.specs.Runs.{IsRun, GoesOn};
 
 use crate::exchange::{derive_both, derive_equal, exchange};
 use crate::gather::{add_facts, add_terms, fact_at};
@@ -212,7 +212,7 @@ fn close(alloc: Global, run: &mut Run, count: u32) -> Result<(), Memory>
     requires count { count ≡ length run.old.log.facts }
     requires fine { All (IsFine run.old.log.nodes) run.old.log.facts }
     requires small { All HasSmallNumber run.old.log.nodes }
-    requires sums { SumsAreOfIntegers run.old.log.nodes }
+    requires parts { PartsAreBelow run.old.log.nodes (length run.old.log.nodes) }
     ensures goes { IfOk result (λ _. GoesOn run.old run.new) }
     ensures complete { IfOk result (λ _. (HasNegativeCycle run.new.bounds.edges → ⊥) → AreComplete run.new.classes.nodes run.new.log.facts run.new.classes.merged run.new.bounds.edges) }
 {
@@ -230,7 +230,6 @@ pub fn refutation(
 ) -> Result<Option<Vec<Step>>, Memory>
     requires parts { PartsAreBelow nodes.items (length nodes.items) }
     requires small { All HasSmallNumber nodes.items }
-    requires sums { SumsAreOfIntegers nodes.items }
     requires fine { All (IsFine nodes.items) facts.items }
     ensures { IfOk result (λ o. MatchOption o (Conflict nodes.items facts.items → ⊥) (λ steps. IsRefutation nodes.items facts.items steps.items)) }
 {

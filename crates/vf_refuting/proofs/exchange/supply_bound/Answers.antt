@@ -23,24 +23,6 @@ add-requires-clause-run c =
     let a = c.in_ok-reason.ensures.added c.args.x c.args.y (pos 0) v in
     (logged c.derive_equal.new.run c.level_above.new.self c.in_ok-equal.ensures.goes.is (added_continues a)).is
 
-pub add-requires-clause-from : goal.add-requires-clause-from
-add-requires-clause-from c =
-    let t = c.requires.task in
-    let i = integer_later c.args.x c.in_ok-equal.ensures.goes.log (run_integer c.args.run.now c.args.x c.requires.run t.0) in
-    let j = integer_later c.args.y c.in_ok-equal.ensures.goes.log (run_integer c.args.run.now c.args.y c.requires.run t.1) in
-    let v = level_by c.derive_equal.new.run.log.nodes c.derive_equal.new.run.log.known c.in_ok-equal.equal c.args.x c.args.y c.in_ok-equal.ensures.derived i j in
-    let a = c.in_ok-reason.ensures.added c.args.x c.args.y (pos 0) v in
-    integer_later c.args.x (added_continues a) i
-
-pub add-requires-clause-to : goal.add-requires-clause-to
-add-requires-clause-to c =
-    let t = c.requires.task in
-    let i = integer_later c.args.x c.in_ok-equal.ensures.goes.log (run_integer c.args.run.now c.args.x c.requires.run t.0) in
-    let j = integer_later c.args.y c.in_ok-equal.ensures.goes.log (run_integer c.args.run.now c.args.y c.requires.run t.1) in
-    let v = level_by c.derive_equal.new.run.log.nodes c.derive_equal.new.run.log.known c.in_ok-equal.equal c.args.x c.args.y c.in_ok-equal.ensures.derived i j in
-    let a = c.in_ok-reason.ensures.added c.args.x c.args.y (pos 0) v in
-    integer_later c.args.y (added_continues a) j
-
 pub add-requires-clause-reason : goal.add-requires-clause-reason
 add-requires-clause-reason c =
     let t = c.requires.task in

@@ -1,16 +1,20 @@
 use Rattle.std.proofs.Common.{rules, subst}
 use Rattle.std.specs.Prelude.{ℤ, slice_index}
 use Rattle.std.proofs.lemmas.Int.{to_z-of_z}
+use Rattle.std.proofs.lemmas.Option.{slice_get_within}
 use Rattle.vf_ground.specs.Held.{HasBoth}
-use Rattle.vf_ground.proofs.Gained.{sum_one, number_small}
-use Rattle.vf_refuting.proofs.Deriving.{plus_integer}
+use Rattle.vf_ground.proofs.Gained.{sum_one, sum_part, number_small}
+use Rattle.vf_refuting.proofs.Running.{term_within}
 use Rattle.vf_refuting.proofs.gather.add_as_sum.Goals as goal
 
 pub add_offset-requires-clause-left : goal.add_offset-requires-clause-left
-add_offset-requires-clause-left c = plus_integer (rw c.nodes.ensures at c.in-Some.ensures)
+add_offset-requires-clause-left c =
+    let p = rw c.nodes.ensures at c.in-Some.ensures in
+    term_within c.args.run.now c.args.a c.requires.run (slice_get_within c.args.run.now.log.nodes c.args.a p.node p.found)
 
 pub add_offset-requires-clause-right : goal.add_offset-requires-clause-right
-add_offset-requires-clause-right c = c.requires.sums c.args.a c.in-Some.shift.part c.in-Some.shift.number (rw c.nodes.ensures at c.in-Some.ensures)
+add_offset-requires-clause-right c =
+    term_within c.args.run.now c.in-Some.shift.part c.requires.run (sum_part c.args.run.now.log.nodes _ c.args.a c.in-Some.shift.part c.in-Some.shift.number c.requires.parts (rw c.nodes.ensures at c.in-Some.ensures))
 
 pub add_offset-requires-clause-small : goal.add_offset-requires-clause-small
 add_offset-requires-clause-small c =

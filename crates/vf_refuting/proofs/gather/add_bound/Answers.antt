@@ -1,6 +1,6 @@
 use Rattle.vf_refute.specs.declared.steps.Derived.TheVariants.{AreWithin}
 use Rattle.vf_log.proofs.Continued.{added_has, added_continues}
-use Rattle.vf_refuting.proofs.Deriving.{of_most, within_small, integer_later}
+use Rattle.vf_refuting.proofs.Deriving.{of_most, within_small}
 use Rattle.vf_refuting.proofs.Running.{logged, goes_more}
 use Rattle.vf_refuting.proofs.gather.add_bound.Goals as goal
 
@@ -11,16 +11,6 @@ pub add-requires-clause-run : goal.add-requires-clause-run
 add-requires-clause-run c =
     let a = c.in_ok-reason.ensures.added (AreWithin c.args.edge.from c.args.edge.to c.args.edge.most) (of_most c.args.run.now.log.facts c.args.i c.args.edge.from c.args.edge.to c.args.edge.most c.requires.fact) in
     (logged c.args.run.now c.fact.new.self c.requires.run (added_continues a)).is
-
-pub add-requires-clause-from : goal.add-requires-clause-from
-add-requires-clause-from c =
-    let a = c.in_ok-reason.ensures.added (AreWithin c.args.edge.from c.args.edge.to c.args.edge.most) (of_most c.args.run.now.log.facts c.args.i c.args.edge.from c.args.edge.to c.args.edge.most c.requires.fact) in
-    integer_later c.args.edge.from (added_continues a) c.requires.fine.3
-
-pub add-requires-clause-to : goal.add-requires-clause-to
-add-requires-clause-to c =
-    let a = c.in_ok-reason.ensures.added (AreWithin c.args.edge.from c.args.edge.to c.args.edge.most) (of_most c.args.run.now.log.facts c.args.i c.args.edge.from c.args.edge.to c.args.edge.most c.requires.fact) in
-    integer_later c.args.edge.to (added_continues a) c.requires.fine.4
 
 pub add-requires-clause-reason : goal.add-requires-clause-reason
 add-requires-clause-reason c =

@@ -1,13 +1,13 @@
-use Rattle.std.proofs.Common.{sym, subst, below_more, List}
+use Rattle.std.proofs.Common.{sym, subst, below_more, length, List}
 use Rattle.vf_table.specs.declared.node.Node.{Node}
+use Rattle.vf_table.specs.Tables.{PartsAreBelow}
 use Rattle.vf_ground.specs.Held.{HasTerm}
 use Rattle.vf_ground.proofs.Gained.{term_kept}
-use Rattle.vf_refuting.specs.Runs.{SumsAreOfIntegers}
 use Rattle.vf_refuting.proofs.Running.{goes_more}
 use Rattle.vf_refuting.proofs.gather.add_terms.Goals as goal
 
-pub add_term-requires-clause-sums : goal.add_term-requires-clause-sums
-add_term-requires-clause-sums c = subst SumsAreOfIntegers (sym c.loop-a.invariant.goes.log.nodes) c.requires.sums
+pub add_term-requires-clause-parts : goal.add_term-requires-clause-parts
+add_term-requires-clause-parts c = subst (λ (ns : List Node). PartsAreBelow ns (length ns)) (sym c.loop-a.invariant.goes.log.nodes) c.requires.parts
 
 pub loop-a-preserved : goal.loop-a-preserved
 loop-a-preserved c =

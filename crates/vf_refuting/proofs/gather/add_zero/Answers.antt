@@ -1,7 +1,7 @@
 use Rattle.std.proofs.Common.{◌≡◌, refl, inr, true, false}
-use Rattle.std.specs.Prelude.{pos}
 use Rattle.std.proofs.lemmas.Int.{to_z-of_z}
-use Rattle.vf_refuting.proofs.Deriving.{number_integer}
+use Rattle.std.proofs.lemmas.Option.{slice_get_within}
+use Rattle.vf_refuting.proofs.Running.{term_within}
 use Rattle.vf_refuting.proofs.gather.add_zero.Goals as goal
 
 pub add_offset-requires-clause-offset : goal.add_offset-requires-clause-offset
@@ -11,10 +11,11 @@ add_offset-requires-clause-offset c =
     simp to_z-of_z (inr (refl, c.requires.number, z.0 refl))
 
 pub add_offset-requires-clause-left : goal.add_offset-requires-clause-left
-add_offset-requires-clause-left c = number_integer c.args.run.now.log.nodes c.args.a c.args.number c.requires.number
+add_offset-requires-clause-left c = term_within c.args.run.now c.args.a c.requires.run (let p = c.requires.number in slice_get_within c.args.run.now.log.nodes c.args.a p.0 p.1)
 
 pub add_offset-requires-clause-right : goal.add_offset-requires-clause-right
-add_offset-requires-clause-right c = let z = rw c.nodes.ensures at c.if-is_zero.ensures in number_integer c.args.run.now.log.nodes c.args.zero (pos 0) (z.0 refl)
+add_offset-requires-clause-right c = let z = rw c.nodes.ensures at c.if-is_zero.ensures in
+    term_within c.args.run.now c.args.zero c.requires.run (let p = z.0 refl in slice_get_within c.args.run.now.log.nodes c.args.zero p.0 p.1)
 
 pub returns-then-is_zero-clause-has : goal.returns-then-is_zero-clause-has
 returns-then-is_zero-clause-has c = let f = c.ranges.number in λ z. simp to_z-of_z at c.in_ok-add_offset.ensures.has

@@ -1,16 +1,8 @@
-use Rattle.std.proofs.Common.{◌≡◌, subst, sym, arith}
+use Rattle.std.proofs.Common.{◌≡◌, arith}
 use Rattle.std.specs.Prelude.{pos, ◌+ℤ◌, neg_ℤ}
 use Rattle.std.proofs.lemmas.Int.{ints, to_z-of_z}
-use Rattle.vf_table.specs.Tables.{IsInteger}
-use Rattle.vf_log.specs.Derivations.{Derivation}
 use Rattle.vf_ground.specs.Held.{edge}
 use Rattle.vf_refuting.proofs.run.add_both.Goals as goal
-
-pub add-requires-2-clause-from : goal.add-requires-2-clause-from
-add-requires-2-clause-from c = subst (λ (l : Derivation). IsInteger l.nodes c.args.y) (sym c.in_ok-add.ensures.log) c.requires.right
-
-pub add-requires-2-clause-to : goal.add-requires-2-clause-to
-add-requires-2-clause-to c = subst (λ (l : Derivation). IsInteger l.nodes c.args.x) (sym c.in_ok-add.ensures.log) c.requires.left
 
 pub returns-clause-has : goal.returns-clause-has
 returns-clause-has c =

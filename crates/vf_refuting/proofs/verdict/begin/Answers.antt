@@ -3,7 +3,7 @@ use Rattle.vf_table.specs.declared.node.Node.{Node}
 use Rattle.vf_table.specs.Tables.{PartsAreBelow}
 use Rattle.vf_log.specs.Copies.{HaveSameTerms}
 use Rattle.vf_refuting.proofs.Copied.{reversed, parts_copied}
-use Rattle.vf_refuting.proofs.Ending.{nothing_equal, nothing_within, nothing_integer}
+use Rattle.vf_refuting.proofs.Ending.{nothing_equal, nothing_within}
 use Rattle.vf_refuting.proofs.verdict.begin.Goals as goal
 
 pub new-requires-2-clause-parts : goal.new-requires-2-clause-parts
@@ -20,5 +20,4 @@ returns-clause-run c =
       size = c.in_ok-bounds.ensures.0 ∙ (let e = c.len.ensures in search rules) ∙ sym (ap (λ (ns : List Node). length ns) c.in_ok-classes.ensures.0);
       equal = nothing_equal c.new-3.result.known c.in_ok-classes.classes.merged c.new-4.result.items c.in_ok-classes.ensures.1 c.new-4.ensures.items;
       within = nothing_within c.new-3.result.known c.in_ok-bounds.bounds.edges c.new-5.result.items c.in_ok-bounds.ensures.1 c.new-5.ensures.items;
-      integers = nothing_integer c.new-3.result.nodes c.in_ok-bounds.bounds.edges c.in_ok-bounds.ensures.1;
     }

@@ -1,8 +1,8 @@
-use Rattle.std.proofs.Common.{sym, subst, List}
+use Rattle.std.proofs.Common.{sym, subst, length, List}
 use Rattle.std.specs.Prelude.{All}
 use Rattle.vf_table.specs.declared.node.Node.{Node}
+use Rattle.vf_table.specs.Tables.{PartsAreBelow}
 use Rattle.vf_ground.specs.Held.{HasSmallNumber}
-use Rattle.vf_refuting.specs.Runs.{SumsAreOfIntegers}
 use Rattle.vf_refuting.proofs.Ending.{all_complete}
 use Rattle.vf_refuting.proofs.Running.{goes_more}
 use Rattle.vf_refuting.proofs.verdict.close.Goals as goal
@@ -10,8 +10,8 @@ use Rattle.vf_refuting.proofs.verdict.close.Goals as goal
 pub add_terms-requires-clause-small : goal.add_terms-requires-clause-small
 add_terms-requires-clause-small c = subst (λ (ns : List Node). All HasSmallNumber ns) (sym c.in_ok-add_facts.ensures.goes.log.nodes) c.requires.small
 
-pub add_terms-requires-clause-sums : goal.add_terms-requires-clause-sums
-add_terms-requires-clause-sums c = subst SumsAreOfIntegers (sym c.in_ok-add_facts.ensures.goes.log.nodes) c.requires.sums
+pub add_terms-requires-clause-parts : goal.add_terms-requires-clause-parts
+add_terms-requires-clause-parts c = subst (λ (ns : List Node). PartsAreBelow ns (length ns)) (sym c.in_ok-add_facts.ensures.goes.log.nodes) c.requires.parts
 
 pub returns-clause-goes : goal.returns-clause-goes
 returns-clause-goes c = goes_more (goes_more c.in_ok-add_facts.ensures.goes c.in_ok-add_terms.ensures.goes) c.in_ok-exchange.ensures.goes

@@ -1,10 +1,10 @@
-use Rattle.std.proofs.Common.{sym, ◌∙◌, subst, List}
+use Rattle.std.proofs.Common.{sym, ◌∙◌, subst, length, List}
 use Rattle.std.specs.Prelude.{All}
 use Rattle.vf_table.specs.declared.node.Node.{Node}
+use Rattle.vf_table.specs.Tables.{PartsAreBelow}
 use Rattle.vf_refute.specs.declared.steps.Fact.{Fact}
 use Rattle.vf_refute.specs.Closure.{Conflict}
 use Rattle.vf_ground.specs.Held.{IsFine, HasSmallNumber}
-use Rattle.vf_refuting.specs.Runs.{SumsAreOfIntegers}
 use Rattle.vf_refuting.proofs.Copied.{reversed, all_fine}
 use Rattle.vf_refuting.proofs.Ending.{none_at_all, told_none}
 use Rattle.vf_refuting.proofs.verdict.refutation.Goals as goal
@@ -17,8 +17,8 @@ close-requires-clause-fine c =
 pub close-requires-clause-small : goal.close-requires-clause-small
 close-requires-clause-small c = subst (λ (ns : List Node). All HasSmallNumber ns) (sym c.in_ok-run.ensures.nodes) c.requires.small
 
-pub close-requires-clause-sums : goal.close-requires-clause-sums
-close-requires-clause-sums c = subst SumsAreOfIntegers (sym c.in_ok-run.ensures.nodes) c.requires.sums
+pub close-requires-clause-parts : goal.close-requires-clause-parts
+close-requires-clause-parts c = subst (λ (ns : List Node). PartsAreBelow ns (length ns)) (sym c.in_ok-run.ensures.nodes) c.requires.parts
 
 pub end-requires-clause-fine : goal.end-requires-clause-fine
 end-requires-clause-fine c =
