@@ -4,7 +4,7 @@ use std::alloc::Global;
 use std::test::Fail;
 use vf_arith::{Bounds, Edge, is_small};
 use vf_base::Memory;
-use vf_explain::{are_of_integers, are_reasons, why_bound, why_conflict};
+use vf_explain::{are_reasons, why_bound, why_conflict};
 use vf_log::Log;
 use vf_refute::{Derived, Fact};
 use vf_table::{Head, Node, is_integer};
@@ -64,9 +64,6 @@ fn explained(
     y: u32,
 ) -> Result<Told, Memory> {
     if !are_reasons(log.known(), bounds.edges(), reasons) {
-        return Ok(Told::Unfit);
-    }
-    if !are_of_integers(log.nodes(), bounds.edges()) {
         return Ok(Told::Unfit);
     }
     if bounds.conflict() {
@@ -142,7 +139,7 @@ fn steps_derive_bounds(rt: HostRuntime) -> Result<(), Fail> {
             &[edge(0, 1, 3), edge(1, 2, 0), edge(2, 0, -4), edge(3, 3, 0)],
             0,
             1,
-            Told::Within(0, 0, -1),
+            Told::Within(2, 2, -1),
         ),
     ];
     for (edges, x, y, expected) in cases {

@@ -5,7 +5,7 @@ use std::test::Fail;
 use vf_base::Memory;
 use vf_ground::{are_fine, numbers_are_small};
 use vf_refute::{Fact, recheck};
-use vf_refuting::{refutation, sums_are_of_integers};
+use vf_refuting::refutation;
 use vf_table::{Head, Node, parts_are_below};
 
 /// What comes of a question.
@@ -21,9 +21,10 @@ enum Told {
     Unfit,
 }
 
-/// The terms of the tests: 0, x, y, f(x), f(y), x + 1, 1, y + 1, nil, cons(x, nil), cons(y, nil) and z.
+/// The terms of the tests: 0, x, y, f(x), f(y), x + 1, 1, y + 1, nil, cons(x, nil), cons(y, nil), z, p, p + 1, 2 and
+/// p + 2, where p is no integer term.
 fn terms(alloc: Global) -> Result<Vec<Node>, Memory> {
-    let rows: [(Head, &[u32]); 12] = [
+    let rows: [(Head, &[u32]); 16] = [
         (Head::Number(0), &[]),
         (Head::Integer(0), &[]),
         (Head::Integer(1), &[]),
@@ -36,6 +37,10 @@ fn terms(alloc: Global) -> Result<Vec<Node>, Memory> {
         (Head::Constructor(1), &[1, 8]),
         (Head::Constructor(1), &[2, 8]),
         (Head::Integer(2), &[]),
+        (Head::Other(1), &[]),
+        (Head::Plus, &[12, 6]),
+        (Head::Number(2), &[]),
+        (Head::Plus, &[12, 14]),
     ];
     let mut nodes = Vec::new(alloc);
     for (head, parts) in rows {
@@ -59,9 +64,6 @@ fn answered(alloc: Global, facts: &[Fact]) -> Result<Told, Memory> {
     if !numbers_are_small(&nodes) {
         return Ok(Told::Unfit);
     }
-    if !sums_are_of_integers(&nodes) {
-        return Ok(Told::Unfit);
-    }
     if !are_fine(&nodes, facts) {
         return Ok(Told::Unfit);
     }
@@ -78,7 +80,7 @@ fn answered(alloc: Global, facts: &[Fact]) -> Result<Told, Memory> {
 
 #[test]
 fn refutations_are_accepted(rt: HostRuntime) -> Result<(), Fail> {
-    let cases: [(&[Fact], Told); 14] = [
+    let cases: [(&[Fact], Told); 16] = [
         (&[], Told::Open),
         (&[Fact::NotEqual(3, 4)], Told::Open),
         (&[Fact::Equal(1, 2), Fact::NotEqual(3, 4)], Told::Refuted),
@@ -112,6 +114,8 @@ fn refutations_are_accepted(rt: HostRuntime) -> Result<(), Fail> {
         (&[Fact::Equal(5, 1)], Told::Refuted),
         (&[Fact::Equal(0, 6)], Told::Refuted),
         (&[Fact::Equal(5, 7), Fact::NotEqual(9, 10)], Told::Refuted),
+        (&[Fact::AtMost(15, 13, 0)], Told::Refuted),
+        (&[Fact::AtMost(15, 13, 1)], Told::Open),
         (&[Fact::Equal(20, 1)], Told::Unfit),
     ];
     for (facts, expected) in cases {
