@@ -7,7 +7,7 @@ use Rattle.std.proofs.lemmas.List.{length_push, take_at, get_or_past, length-set
 use Rattle.std.proofs.lemmas.List.Elements.{Contains-append_left, Contains-push}
 use Rattle.vf_table.specs.declared.node.Node.{Node}
 use Rattle.vf_table.specs.Tables.{IsInteger, HaveClashingHeads}
-use Rattle.vf_congruence.specs.Congruence.{Congruent, based, WereMerged}
+use Rattle.vf_congruence.specs.Congruence.{Congruent, based, congruent_back, WereMerged}
 use Rattle.vf_congruence.proofs.Meeting.{congruent_bind}
 use Rattle.vf_growing.specs.declared.journal.Step as merging
 use Rattle.vf_growing.specs.declared.journal.Moved.{Moved}
@@ -18,10 +18,10 @@ use Rattle.vf_arith.specs.declared.bounds.Step.TheVariants.{Bound}
 use Rattle.vf_arith.specs.declared.journal.Saved.{Saved}
 use Rattle.vf_arith.specs.Paths.{Path, path_none, path_edge, Network, HasNegativeCycle}
 use Rattle.vf_arith.specs.Steps as bounding
-use Rattle.vf_arith.specs.Histories.{HasPathUnder, OnlySavedShorten}
+use Rattle.vf_arith.specs.Histories.{IsSaved, HasPathUnder, OnlySavedShorten}
 use Rattle.vf_ground.specs.Held.{IsNear, Clash, HaveGrown}
 use Rattle.vf_ground.proofs.Closing.{grown_join}
-use Rattle.vf_combination.specs.Exchanged.{IsUnmarked, AreOfSteps, AreBoundsOfSteps, OnlyMarkedMeet, OnlyMarkedNear, AreQuiet, QuietElsewhere, HasClash, HaveFollowed, HaveMarked, HaveFallen}
+use Rattle.vf_combination.specs.Exchanged.{IsUnmarked, AreOfSteps, AreBoundsOfSteps, OnlyMarkedMeet, IsSqueezed, OnlyMarkedNear, AreQuiet, QuietElsewhere, HasClash, HaveFollowed, HaveMarked, HaveFallen}
 
 pub unmarked_below : (m : List Bool) (x : ℕ) → IsUnmarked m x → x < length m
 unmarked_below m x u = elim (cases_lt x (length m)) [
@@ -47,15 +47,23 @@ meet_of c c' s moved m m' is steps back marks only = record {
       (only x y (omega arith) (omega arith) (marks x u).2 (marks y w).2 h)));
 }
 
+squeezed_of : (b : Network) (saved : List Saved) (x y : ℕ) (s : IsSaved saved x y) → x < b.size → y < b.size → IsNear b.edges x y (pos 0) → IsNear b.edges y x (pos 0) → IsSqueezed b s.kept
+squeezed_of b saved x y s i j up down = record {
+  left = let e = s.left in omega arith;
+  right = let e = s.right in omega arith;
+  up = subst (λ p. IsNear b.edges p s.kept.y (pos 0)) (sym s.left) (subst (λ q. IsNear b.edges x q (pos 0)) (sym s.right) up);
+  down = subst (λ p. IsNear b.edges s.kept.y p (pos 0)) (sym s.left) (subst (λ q. IsNear b.edges q x (pos 0)) (sym s.right) down);
+}
+
 pub near_of : (b b' : Network) (e : Edge) (saved : List Saved) (m m' : List Bool) → AreBoundsOfSteps b → b'.steps ≡ b.steps ++ Bound e ∷ [] → b'.size ≡ b.size → length m ≡ b.size → b'.edges ≡ b.edges ++ e ∷ [] →
-    ((x : ℕ) → IsUnmarked m' x → IsUnmarked m x × ((s : Saved) → Contains saved s → s.x ≡ x → ⊥)) → OnlySavedShorten b' saved → OnlyMarkedNear b m b' m'
+    ((x : ℕ) → IsUnmarked m' x → IsUnmarked m x × ((s : Saved) → Contains saved s → IsSqueezed b' s → s.x ≡ x → ⊥)) → OnlySavedShorten b' saved → OnlyMarkedNear b m b' m'
 near_of b b' e saved m m' is steps size long edges marks only = record {
   marked = λ x u. (marks x u).0;
   kept = λ f h. subst (λ (l : List Edge). Contains l f) (sym edges) (Contains-append_left b.edges (e ∷ []) f h);
-  near = λ fine x y u w h.
+  near = λ fine x y u w h k.
       let lx = unmarked_below m x (marks x u).0 in let ly = unmarked_below m y (marks y w).0 in
       let r = subst (λ (es : List Edge). HasPathUnder es x y h.total) (ap bounding.bounds_of (front_is b.steps b'.steps (Bound e) steps) ∙ sym is.edges)
-      (only x y h.total (omega arith) (omega arith) (λ s. (marks x u).1 s.kept s.found s.left) h.path) in
+      (only x y h.total (omega arith) (omega arith) (λ s. (marks x u).1 s.kept s.found (squeezed_of b' saved x y s (omega arith) (omega arith) h k) s.left) h.path) in
       record { total = r.total; path = r.path; under = let p = r.under in let q = h.under in omega (arith, ints) };
 }
 
@@ -83,7 +91,7 @@ pub near_join : (b : Network) (m : List Bool) (b' : Network) (m' : List Bool) (b
 near_join b m b' m' b'' m'' g h = record {
   marked = λ x u. g.marked x (h.marked x u);
   kept = λ e k. h.kept e (g.kept e k);
-  near = λ fine x y u w k. g.near (λ n. fine (cycle_more b'.edges b''.edges h.kept n)) x y (h.marked x u) (h.marked y w) (h.near fine x y u w k);
+  near = λ fine x y u w k l. g.near (λ n. fine (cycle_more b'.edges b''.edges h.kept n)) x y (h.marked x u) (h.marked y w) (h.near fine x y u w k l) (h.near fine y x w u l k);
 }
 
 congruent_more : {nodes : List Node} (ms ms' : List (ℕ × ℕ)) {x y : ℕ} → ((a b : ℕ) → WereMerged ms a b → WereMerged ms' a b) → Congruent nodes (WereMerged ms) x y → Congruent nodes (WereMerged ms') x y
@@ -107,11 +115,15 @@ marked_bound c b b' k m m' h = record {
   quiet = λ fine x y u w q. record {
     agree = record {
       level = λ i j s. near_more h.kept (q.agree.level i j s);
-      squeezed = λ i j n o. q.agree.squeezed i j (h.near fine x y u w n) (h.near fine y x w u o);
+      squeezed = λ i j n o. q.agree.squeezed i j (h.near fine x y u w n o) (h.near fine y x w u o n);
     };
     clash = q.clash;
   };
 }
+
+-- two terms of one class have nothing to exchange once the first is within 0 of the second
+pub bound_quiet : (c : Growth) (b : Network) (k : Bool) (x y : ℕ) → Congruent c.nodes (WereMerged c.merged) x y → IsNear b.edges x y (pos 0) → (Clash c.nodes c.merged x y → IsTrue k) → AreQuiet c b k x y
+bound_quiet c b k x y same near known = record { agree = record { level = λ i j s. near; squeezed = λ i j n o. same }; clash = known }
 
 pub quiet_known : (c : Growth) (b : Network) (k k' : Bool) (x y : ℕ) → (IsTrue k → IsTrue k') → AreQuiet c b k x y → AreQuiet c b k' x y
 quiet_known c b k k' x y f q = record { agree = q.agree; clash = λ p. f (q.clash p) }
@@ -178,6 +190,13 @@ pub marked_noted : (c : Growth) (b : Network) (k k' : Bool) (m : List Bool) (c' 
 marked_noted c b k k' m c' b' m' kept h = record { marked = h.marked; quiet = λ fine x y u w q. h.quiet fine x y u w (quiet_known c b k k' x y kept q) }
 
 -- ---- two terms in both orders
+
+-- two terms that are in two classes, and not within 0 both ways, have nothing to exchange
+pub apart_quiet : (c : Growth) (b : Network) (k : Bool) (x y : ℕ) → (Congruent c.nodes (WereMerged c.merged) x y → ⊥) → (IsNear b.edges x y (pos 0) → IsNear b.edges y x (pos 0) → ⊥) → AreQuiet c b k x y × AreQuiet c b k y x
+apart_quiet c b k x y two far = (
+  record { agree = record { level = λ i j s. absurd (two s); squeezed = λ i j n o. absurd (far n o) }; clash = λ p. absurd (two p.same) },
+  record { agree = record { level = λ i j s. absurd (two (congruent_back s)); squeezed = λ i j n o. absurd (far o n) }; clash = λ p. absurd (two (congruent_back p.same)) },
+)
 
 pub both_quiet : (c : Growth) (b : Network) (k : Bool) (m : List Bool) (c' : Growth) (b' : Network) (k' : Bool) (m' : List Bool) (x y : ℕ) → ((e : Edge) → Contains b.edges e → Contains b'.edges e) → HaveMarked c b k m c' b' k' m' →
     ((HasNegativeCycle b.edges → ⊥) → IsUnmarked m x → IsUnmarked m y → AreQuiet c b k x y) → ((HasNegativeCycle b'.edges → ⊥) → IsUnmarked m' y → IsUnmarked m' x → AreQuiet c' b' k' y x) →

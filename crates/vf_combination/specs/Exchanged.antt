@@ -5,6 +5,7 @@ use Rattle.vf_congruence.specs.Congruence.{Congruent, WereMerged}
 use Rattle.vf_growing.specs.declared.journal.Step.TheVariants.{Term}
 use Rattle.vf_growing.specs.Steps.{Growth, terms_of, merges_of}
 use Rattle.vf_arith.specs.declared.bounds.Edge.{Edge}
+use Rattle.vf_arith.specs.declared.journal.Saved.{Saved}
 use Rattle.vf_arith.specs.Paths.{Network, HasNegativeCycle}
 use Rattle.vf_arith.specs.Steps.{points_of, bounds_of}
 use Rattle.vf_ground.specs.Held.{IsNear, Agree, Clash, HaveGrown}
@@ -56,11 +57,18 @@ pub record OnlyMarkedMeet (c : Growth) (m : List Bool) (c' : Growth) (m' : List 
   pub marked : (x : ℕ) → IsUnmarked m' x → IsUnmarked m x
   pub meet : (x y : ℕ) → IsUnmarked m' x → IsUnmarked m' y → Congruent c'.nodes (WereMerged c'.merged) x y → Congruent c.nodes (WereMerged c.merged) x y
 
--- terms that are not marked are within 0 only where they were
+-- the points of a distance are within 0 both ways
+pub record IsSqueezed (b : Network) (s : Saved) : Type 0 where
+  pub left : s.x < b.size
+  pub right : s.y < b.size
+  pub up : IsNear b.edges s.x s.y (pos 0)
+  pub down : IsNear b.edges s.y s.x (pos 0)
+
+-- terms that are not marked are within 0 both ways only where they were
 pub record OnlyMarkedNear (b : Network) (m : List Bool) (b' : Network) (m' : List Bool) : Type 0 where
   pub marked : (x : ℕ) → IsUnmarked m' x → IsUnmarked m x
   pub kept : (e : Edge) → Contains b.edges e → Contains b'.edges e
-  pub near : (HasNegativeCycle b'.edges → ⊥) → (x y : ℕ) → IsUnmarked m' x → IsUnmarked m' y → IsNear b'.edges x y (pos 0) → IsNear b.edges x y (pos 0)
+  pub near : (HasNegativeCycle b'.edges → ⊥) → (x y : ℕ) → IsUnmarked m' x → IsUnmarked m' y → IsNear b'.edges x y (pos 0) → IsNear b'.edges y x (pos 0) → IsNear b.edges x y (pos 0)
 
 -- classes and bounds agree at two terms, and that these clash, if they do, is known
 pub record AreQuiet (c : Growth) (b : Network) (clashed : Bool) (x y : ℕ) : Type 0 where

@@ -53,7 +53,7 @@ struct Task {
     lack: Lack,
 }
 
-/// Gives classes and bounds what they lack at two terms, and marks one of these at least.
+/// Gives classes and bounds what they lack at two terms, and marks what this changes.
 fn supply(
     alloc: Global,
     classes: &mut GrowingClasses,
@@ -67,7 +67,7 @@ fn supply(
     ensures on { HaveGoneOn classes.old bounds.old classes.new bounds.new }
     ensures followed { IfOk result (λ _. (k : Bool) → HaveFollowed classes.old bounds.old k classes.new bounds.new k) }
     ensures marked { IfOk result (λ _. (k : Bool) → HaveMarked classes.old bounds.old k marks.old classes.new bounds.new k marks.new) }
-    ensures quiet { IfOk result (λ _. (HasNegativeCycle bounds.new.edges → ⊥) → IsUnmarked marks.new task.left → IsUnmarked marks.new task.right → ⊥) }
+    ensures quiet { IfOk result (λ _. (k : Bool) → (Clash classes.old.nodes classes.old.merged task.left task.right → IsTrue k) → (HasNegativeCycle bounds.new.edges → ⊥) → IsUnmarked marks.new task.left → IsUnmarked marks.new task.right → AreQuiet classes.new bounds.new k task.left task.right) }
     ensures falls { IfOk result (λ _. (HasNegativeCycle bounds.new.edges → ⊥) → classes.new.weight + bounds.new.weight < classes.old.weight + bounds.old.weight) }
 {
     match task.lack {
@@ -169,8 +169,9 @@ fn settle_at(
     Ok(given)
 }
 
-/// Settles two terms in both orders, up to a negative cycle, and tells whether anything was lacking.
-fn settle_both(
+/// Settles two terms in one order and then in the other, up to a negative cycle, and tells whether
+/// anything was lacking.
+fn settle_in_turn(
     alloc: Global,
     classes: &mut GrowingClasses,
     bounds: &mut Bounds,
@@ -197,6 +198,52 @@ fn settle_both(
     }
     let given_back = settle_at(alloc, classes, bounds, clashed, marks, y, x)?;
     Ok(given || given_back)
+}
+
+/// Whether two terms are in two classes, and not within 0 both ways.
+fn are_apart(classes: &GrowingClasses, bounds: &Bounds, x: u32, y: u32) -> bool
+    requires fine { HasNegativeCycle bounds.now.edges → ⊥ }
+    requires size { bounds.now.size ≡ length classes.now.nodes }
+    requires left { x < length classes.now.nodes }
+    requires right { y < length classes.now.nodes }
+    ensures { IsTrue result → (k : Bool) → AreQuiet classes.now bounds.now k x y × AreQuiet classes.now bounds.now k y x }
+{
+    if classes.same(x, y) {
+        return false;
+    }
+    if are_level(bounds, x, y) {
+        return false;
+    }
+    true
+}
+
+/// Settles two terms in both orders, up to a negative cycle, and tells whether anything was lacking. Most
+/// are apart, and are passed at once.
+fn settle_both(
+    alloc: Global,
+    classes: &mut GrowingClasses,
+    bounds: &mut Bounds,
+    clashed: &mut bool,
+    marks: &mut [bool],
+    x: u32,
+    y: u32,
+) -> Result<bool, Memory>
+    requires fine { HasNegativeCycle bounds.old.edges → ⊥ }
+    requires fitting { AreFitting classes.old bounds.old }
+    requires long { length marks.old ≡ length classes.old.nodes }
+    requires left { x < length classes.old.nodes }
+    requires right { y < length classes.old.nodes }
+    ensures on { HaveGoneOn classes.old bounds.old classes.new bounds.new }
+    ensures followed { IfOk result (λ _. HaveFollowed classes.old bounds.old clashed.old classes.new bounds.new clashed.new) }
+    ensures marked { IfOk result (λ _. HaveMarked classes.old bounds.old clashed.old marks.old classes.new bounds.new clashed.new marks.new) }
+    ensures quiet { IfOk result (λ _. (HasNegativeCycle bounds.new.edges → ⊥) → IsUnmarked marks.new x → IsUnmarked marks.new y → AreQuiet classes.new bounds.new clashed.new x y × AreQuiet classes.new bounds.new clashed.new y x) }
+    ensures same { IfOk result (λ given. IsFalse given → marks.new ≡ marks.old) }
+    ensures fallen { IfOk result (λ given. HaveFallen given classes.old bounds.old classes.new bounds.new) }
+{
+    if are_apart(classes, bounds, x, y) {
+        return Ok(false);
+    }
+    settle_in_turn(alloc, classes, bounds, clashed, marks, x, y)
 }
 
 /// Settles a term with each other one, up to a negative cycle, and tells whether anything was lacking.

@@ -1,15 +1,16 @@
 //! Marks of the terms at which something changed.
 
-ghost use Rattle.std.specs.Prelude.{◌≡◌, ◌<◌, ◌+◌, ◌^◌, ◌++◌, ◌∷◌, [], ℕ, pos, ◌≤ℤ◌, ℤ, length, Contains, IfOk, OnOk, neg_ℤ};
+ghost use Rattle.std.specs.Prelude.{◌≡◌, ◌<◌, ◌+◌, ◌^◌, ◌++◌, ◌∷◌, [], ℕ, pos, ◌≤ℤ◌, ℤ, length, Contains, ◌↔◌, IsTrue, IfOk, OnOk, neg_ℤ};
 ghost use Rattle.vf_congruence.specs.Congruence.{Congruent, WereMerged};
 ghost use Rattle.vf_growing.specs.Histories.{IsMoved};
 ghost use Rattle.vf_arith.specs.Paths.{Path, IsSmall, HasNegativeCycle};
 ghost use Rattle.vf_ground.specs.Held.{edge};
-ghost use Rattle.vf_combination.specs.Exchanged.{IsUnmarked, AreOfSteps, AreBoundsOfSteps, HaveClassesGoneOn, HaveBoundsGoneOn, OnlyMarkedMeet, OnlyMarkedNear};
+ghost use Rattle.vf_combination.specs.Exchanged.{IsUnmarked, AreOfSteps, AreBoundsOfSteps, HaveClassesGoneOn, HaveBoundsGoneOn, OnlyMarkedMeet, IsSqueezed, OnlyMarkedNear};
 
 use std::alloc::Global;
 use vf_arith::{Bounds, Edge, Saved};
 use vf_base::Memory;
+use vf_ground::are_level;
 use vf_growing::{GrowingClasses, Moved};
 
 /// Marks for terms of this number, of which none is set.
@@ -42,12 +43,32 @@ pub fn mark_moved(marks: &mut [bool], moved: &[Moved])
     }
 }
 
-/// Marks the points from which a distance was shortened.
-fn mark_saved(marks: &mut [bool], saved: &[Saved])
-    ensures { (x : ℕ) → IsUnmarked marks.new x → IsUnmarked marks.old x × ((s : Saved) → Contains saved.now s → s.x ≡ x → ⊥) }
+/// Whether the points of a distance are within 0 both ways.
+fn is_squeezed(bounds: &Bounds, saved: &Saved) -> bool
+    requires fine { HasNegativeCycle bounds.now.edges → ⊥ }
+    ensures { IsTrue result ↔ IsSqueezed bounds.now saved.now }
+{
+    let size = bounds.size();
+    saved.x < size && saved.y < size && are_level(bounds, saved.x, saved.y)
+}
+
+/// Marks the first point of a distance where its points are within 0 both ways.
+fn mark_if_squeezed(bounds: &Bounds, marks: &mut [bool], saved: &Saved)
+    requires fine { HasNegativeCycle bounds.now.edges → ⊥ }
+    ensures { (x : ℕ) → IsUnmarked marks.new x → IsUnmarked marks.old x × (IsSqueezed bounds.now saved.now → saved.now.x ≡ x → ⊥) }
+{
+    if is_squeezed(bounds, saved) {
+        mark(marks, saved.x);
+    }
+}
+
+/// Marks the first points of some distances: of those whose points are within 0 both ways.
+fn mark_squeezed(bounds: &Bounds, marks: &mut [bool], saved: &[Saved])
+    requires fine { HasNegativeCycle bounds.now.edges → ⊥ }
+    ensures { (x : ℕ) → IsUnmarked marks.new x → IsUnmarked marks.old x × ((s : Saved) → Contains saved.now s → IsSqueezed bounds.now s → s.x ≡ x → ⊥) }
 {
     for s in saved {
-        mark(marks, s.x);
+        mark_if_squeezed(bounds, marks, s);
     }
 }
 
@@ -73,7 +94,7 @@ pub fn merge_marking(
     Ok(())
 }
 
-/// Adds a bound, and marks the terms from which it shortens a distance.
+/// Adds a bound, and marks the terms that it brings within 0 of another one both ways.
 pub fn bound_marking(
     alloc: Global,
     bounds: &mut Bounds,
@@ -92,12 +113,13 @@ pub fn bound_marking(
 {
     bounds.add(alloc, edge)?;
     if !bounds.conflict() {
-        mark_saved(marks, bounds.shortened());
+        mark_squeezed(bounds, marks, bounds.shortened());
     }
     Ok(())
 }
 
-/// Adds a bound and the opposite one, and marks the terms from which they shorten a distance.
+/// Adds a bound and the opposite one, and marks the terms that they bring within 0 of another one both
+/// ways.
 pub fn both_marking(
     alloc: Global,
     bounds: &mut Bounds,
