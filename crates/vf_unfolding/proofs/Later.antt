@@ -1,13 +1,12 @@
--- What facts ask to be unfolded more facts ask for too.
-use Rattle.std.proofs.Common.{ℕ, List, ◌∷◌, [], ◌++◌}
+-- What arises and is equal by some literals does and is so by more.
+use Rattle.std.proofs.Common.{ℕ, List}
 use Rattle.std.specs.Prelude.{ℤ, Contains}
-use Rattle.std.proofs.lemmas.List.Elements.{Contains-append_left}
 use Rattle.vf_closure.specs.Terms.{Term, Terms}
 use Rattle.vf_closure.specs.Literals.{Literal, Equal, AtMost, Difference}
 use Rattle.vf_closure.specs.Closure as c
 use Rattle.vf_closure.specs.Closure.{Unfoldings, no_unfoldings, Arises, asked, zero_arises, deeper, in_body, in_case, Same, AllSame, Bound}
 use Rattle.vf_question.specs.declared.unfolding.Unfolding.{Unfolding}
-use Rattle.vf_question.specs.Unfolded.{IsAskedFor, of_body, of_case, IsKnown, in_question, in_unfolding, AreRight}
+use Rattle.vf_question.specs.Unfolded.{IsKnown, in_question, in_unfolding}
 
 module _ (u : Unfoldings) (ls ms : List Literal) (more : (l : Literal) → Contains ls l → Contains ms l) where
   mutual
@@ -46,17 +45,7 @@ module _ (u : Unfoldings) (ls ms : List Literal) (more : (l : Literal) → Conta
     bound_later (c.number_down a) = c.number_down (arises_later a)
     bound_later (c.level i j h) = c.level i j (same_later h)
 
-  asked_later : (m : Unfolding) → IsAskedFor u ls m → IsAskedFor u ms m
-  asked_later m (of_body l a e) = of_body l (arises_later a) e
-  asked_later m (of_case l a k e q f) = of_case l (arises_later a) (arises_later k) e (same_later q) f
-
-known_later : (ls ms : List Literal) (more : (l : Literal) → Contains ls l → Contains ms l) (made : List Unfolding) (t : Term) → IsKnown ls made t → IsKnown ms made t
+-- what is known stays known
+pub known_later : (ls ms : List Literal) (more : (l : Literal) → Contains ls l → Contains ms l) (made : List Unfolding) (t : Term) → IsKnown ls made t → IsKnown ms made t
 known_later ls ms more made t (in_question a) = in_question (arises_later no_unfoldings ls ms more a)
 known_later ls ms more made t (in_unfolding c w) = in_unfolding c w
-
--- right unfoldings stay right with one more fact
-pub right_later : (u : Unfoldings) (facts : List Literal) (l : Literal) (made : List Unfolding) → AreRight u facts made → AreRight u (facts ++ l ∷ []) made
-right_later u facts l made r = record {
-  asked = λ m h. asked_later u facts (facts ++ l ∷ []) (Contains-append_left facts (l ∷ [])) m (r.asked m h);
-  known = λ m h. known_later facts (facts ++ l ∷ []) (Contains-append_left facts (l ∷ [])) made m.application (r.known m h);
-}

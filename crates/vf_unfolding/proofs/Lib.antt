@@ -5,6 +5,7 @@ pub mod Arising
 pub mod Numbers
 pub mod Marks
 pub mod Rounded
+pub mod Later
+pub mod Turning
 pub mod Looping
 pub mod Levels
-pub mod Later

@@ -9,11 +9,12 @@ use Rattle.vf_question.specs.declared.unfolding.Unfolding.{Unfolding}
 use Rattle.vf_question.specs.Numbered.{with_all, terms_of, all_terms}
 use Rattle.vf_question.specs.Plain.{IsPlain, IsPlainLiteral}
 use Rattle.vf_question.specs.Questions.{at}
-use Rattle.vf_question.specs.Unfolded.{equation, equations, AreRight, AreSettled, RightIsSound, SettledIsEnough, NextIsRight}
+use Rattle.vf_question.specs.Unfolded.{equation, equations, AreRight, AreSettled, RightIsSound, SettledIsEnough}
 use Rattle.vf_question.specs.Ends.{missing, UnfoldingEnds}
-use Rattle.vf_unfolding.specs.Rounds.{zero_is_zero, IsCovered, AreOf, AreNumbers, AreKeptFor, IsNextNew, AreEnough}
+use Rattle.vf_unfolding.specs.Rounds.{zero_is_zero, IsCovered, AreOf, AreNumbers, AreKeptFor, IsNextNew, AreInTurn, AreEnough}
 use Rattle.vf_unfolding.proofs.Covering.{conflict_over}
 use Rattle.vf_unfolding.proofs.Marks.{numbers_stay, terms_more}
+use Rattle.vf_unfolding.proofs.Turning.{turn_right, turn_next}
 
 -- ---- covers go on
 covered_more : (xs ys : List pure.Literal) (l : pure.Literal) → ((k : pure.Literal) → Contains xs k → Contains ys k) → IsCovered xs l → IsCovered ys l
@@ -95,21 +96,24 @@ kept_fact before after facts more made asked l e f p t w o h =
     }
 
 -- ---- the ends of the loop
-module _ (u : Unfoldings) (facts : List pure.Literal) (made : List Unfolding) (right : AreRight u facts made) where
+module _ (u : Unfoldings) (facts : List pure.Literal) (made : List Unfolding) (turn : AreInTurn u facts made) where
+  right : AreRight u facts made
+  right = turn_right u facts made turn
+
   -- there is a conflict
   pub enough_for_conflict : RightIsSound → Conflict no_unfoldings (facts ++ equations made) → AreEnough u facts made
-  enough_for_conflict law h = record { right = right; enough = (λ k. h, λ k. law u facts made right k) }
+  enough_for_conflict law h = record { turn = turn; enough = (λ k. h, λ k. law u facts made right k) }
 
   -- nothing is left to unfold
   pub enough_when_settled : SettledIsEnough → AreSettled u facts made → AreEnough u facts made
-  enough_when_settled law h = record { right = right; enough = law u facts made right h }
+  enough_when_settled law h = record { turn = turn; enough = law u facts made right h }
 
   module _ (m : Unfolding) (next : IsNextNew u facts made m) (now : List Unfolding) (is : now ≡ made ++ m ∷ []) where
     pub fewer_missing : UnfoldingEnds → missing u facts now < missing u facts made
     fewer_missing law = subst (λ (ms : List Unfolding). missing u facts ms < missing u facts made) (sym is) (law u facts made m right next.next next.new)
 
-    pub still_right : NextIsRight → AreRight u facts now
-    still_right law = subst (AreRight u facts) (sym is) (law u facts made m right next.next)
+    pub still_in_turn : AreInTurn u facts now
+    still_in_turn = subst (AreInTurn u facts) (sym is) (turn_next u facts made m turn next.next)
 
 -- what is kept has a conflict exactly where the facts have one with unfolding
 pub refuted_is : (ls facts : List pure.Literal) (made : List Unfolding) (os : List ℕ) (b : Bool) → AreKeptFor ls facts made os → IsTrue b ↔ Conflict no_unfoldings ls → (u : Unfoldings) → AreEnough u facts made → IsTrue b ↔ Conflict u facts

@@ -1,5 +1,5 @@
 -- One round: the closure without unfolding, and what is unfolded next.
-use Rattle.std.specs.Prelude.{◌≡◌, ◌⊎◌, ◌↔◌, ℕ, ◌<◌, pos, List, ◌++◌, length, map, Contains, All}
+use Rattle.std.specs.Prelude.{◌≡◌, ◌⊎◌, ◌↔◌, ℕ, ◌<◌, pos, List, ◌++◌, length, map, take, Some, slice_get, Contains, All}
 use Rattle.vf_closure.specs.Terms.{number}
 use Rattle.vf_closure.specs.Literals.{Literal, Equal}
 use Rattle.vf_closure.specs.Closure as closure
@@ -8,7 +8,7 @@ use Rattle.vf_question.specs.declared.unfolding.Unfolding.{Unfolding}
 use Rattle.vf_question.specs.Numbered.{terms_of, all_terms}
 use Rattle.vf_question.specs.Plain.{IsPlain, IsPlainLiteral}
 use Rattle.vf_question.specs.Questions.{at}
-use Rattle.vf_question.specs.Unfolded.{equations, IsNext, WasMade, AreRight, AreSettled}
+use Rattle.vf_question.specs.Unfolded.{equations, IsNext, WasMade, AreSettled}
 use Rattle.vf_unfolding.specs.declared.round.Round.{Round}
 use Rattle.vf_unfolding.specs.declared.round.Round.TheVariants.{Conflict, Settled, Next}
 
@@ -50,7 +50,11 @@ IsRound u facts made Conflict = closure.Conflict no_unfoldings (facts ++ equatio
 IsRound u facts made Settled = (closure.Conflict no_unfoldings (facts ++ equations made) → ⊥) × AreSettled u facts made
 IsRound u facts made (Next m) = IsNextNew u facts made m
 
--- unfoldings are right for facts, and enough: with them the closure without unfolding has a conflict exactly where the closure with unfolding has one
+-- unfoldings were made one after the other, each of which came next after those before it
+abbrev pub AreInTurn : Unfoldings → List Literal → List Unfolding → Type 0
+AreInTurn u facts made = (k : ℕ) (m : Unfolding) → slice_get made k ≡ Some m → IsNext u facts (take k made) m
+
+-- unfoldings were made in turn for facts, and are enough: with them the closure without unfolding has a conflict exactly where the closure with unfolding has one
 pub record AreEnough (u : Unfoldings) (facts : List Literal) (made : List Unfolding) : Type 0 where
-  pub right : AreRight u facts made
+  pub turn : AreInTurn u facts made
   pub enough : closure.Conflict u facts ↔ closure.Conflict no_unfoldings (facts ++ equations made)

@@ -5,8 +5,7 @@ ghost use Rattle.vf_closure.specs.Closure.{Unfoldings, Conflict};
 ghost use Rattle.vf_formula.specs.Literals.{shown_literal};
 ghost use Rattle.vf_question.specs.Numbered.{terms_of};
 ghost use Rattle.vf_question.specs.Plain.{IsPlainLiteral};
-ghost use Rattle.vf_question.specs.Unfolded.{AreRight};
-ghost use Rattle.vf_unfolding.specs.Rounds.{AreKeptFor, AreEnough};
+ghost use Rattle.vf_unfolding.specs.Rounds.{AreKeptFor, AreInTurn, AreEnough};
 ghost use Rattle.vf_unfolding.specs.Walked.{Stand};
 
 use crate::mark::Mark;
@@ -59,7 +58,7 @@ fn add<U: Unfolder>(
     fact: &Literal,
 ) -> Result<(), Memory>
     requires kept { AreKeptFor interning.old.literals (map shown_literal facts.old.items) made.old.items asked.old.items }
-    requires right { AreRight (U.unfoldings unfolder.now) (map shown_literal facts.old.items) made.old.items }
+    requires turn { AreInTurn (U.unfoldings unfolder.now) (map shown_literal facts.old.items) made.old.items }
     requires plain { IsPlainLiteral (shown_literal fact.now) }
     ensures kept { IfOk result (λ _. AreKeptFor interning.new.literals (map shown_literal facts.new.items) made.new.items asked.new.items) }
     ensures enough { IfOk result (λ _. AreEnough (U.unfoldings unfolder.now) (map shown_literal facts.new.items) made.new.items) }
@@ -96,15 +95,15 @@ impl Path {
         })
     }
 
-    /// Adds a fact at a level of its own, and unfolds what it asks for; what was right stays. Where there
-    /// is no memory the path stays as it was.
+    /// Adds a fact at a level of its own, and unfolds what it asks for; what was unfolded in turn stays.
+    /// Where there is no memory the path stays as it was.
     pub fn push<U: Unfolder>(
         &mut self,
         alloc: Global,
         unfolder: &U,
         fact: &Literal,
     ) -> Result<(), Memory>
-        requires right { AreRight (U.unfoldings unfolder.now) self.old.now.facts self.old.now.made }
+        requires turn { AreInTurn (U.unfoldings unfolder.now) self.old.now.facts self.old.now.made }
         requires plain { IsPlainLiteral (shown_literal fact.now) }
         ensures facts { OnOk result (self.new.now.facts ≡ self.old.now.facts ++ shown_literal fact.now ∷ []) }
         ensures enough { IfOk result (λ _. AreEnough (U.unfoldings unfolder.now) self.new.now.facts self.new.now.made) }
@@ -152,6 +151,20 @@ impl Path {
             self.made.truncate(mark.made);
             self.asked.truncate(mark.asked);
         }
+    }
+
+    /// The facts, the first first.
+    pub fn facts(&self) -> &[Literal]
+        ensures { map shown_literal result.now ≡ self.now.now.facts }
+    {
+        self.facts.as_slice()
+    }
+
+    /// What was unfolded for them, the first first.
+    pub fn made(&self) -> &[Unfolding]
+        ensures { result.now ≡ self.now.now.made }
+    {
+        self.made.as_slice()
     }
 
     /// How many terms the facts have, each counted once.

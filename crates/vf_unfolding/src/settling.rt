@@ -3,15 +3,15 @@
 ghost use Rattle.std.specs.Prelude.{◌≡◌, ◌++◌, ◌∷◌, [], length, take, map, IfOk, OnOk};
 ghost use Rattle.vf_formula.specs.Literals.{shown_literal};
 ghost use Rattle.vf_question.specs.Plain.{IsPlain};
-ghost use Rattle.vf_question.specs.Unfolded.{equation, AreRight};
-ghost use Rattle.vf_unfolding.specs.Rounds.{AreKeptFor, AreEnough};
+ghost use Rattle.vf_question.specs.Unfolded.{equation};
+ghost use Rattle.vf_unfolding.specs.Rounds.{AreKeptFor, AreInTurn, AreEnough};
 
 use crate::round::{Round, next_round};
 use std::alloc::Global;
 use vf_base::Memory;
 use vf_formula::Literal;
 use vf_interning::Interning;
-use vf_question::{Unfolding, next_is_right, right_is_sound, settled_is_enough, unfolding_ends};
+use vf_question::{Unfolding, right_is_sound, settled_is_enough, unfolding_ends};
 use vf_unfold::Unfolder;
 
 /// Adds the equation of an unfolding.
@@ -39,14 +39,13 @@ pub(crate) fn settle<U: Unfolder>(
     made: &mut Vec<Unfolding>,
 ) -> Result<(), Memory>
     requires kept { AreKeptFor interning.old.literals (map shown_literal facts.now) made.old.items asked.now }
-    requires right { AreRight (U.unfoldings unfolder.now) (map shown_literal facts.now) made.old.items }
+    requires turn { AreInTurn (U.unfoldings unfolder.now) (map shown_literal facts.now) made.old.items }
     ensures kept { IfOk result (λ _. AreKeptFor interning.new.literals (map shown_literal facts.now) made.new.items asked.now) }
     ensures enough { IfOk result (λ _. AreEnough (U.unfoldings unfolder.now) (map shown_literal facts.now) made.new.items) }
     ensures levels { interning.new.levels ≡ interning.old.levels }
     ensures made { take (length made.old.items) made.new.items ≡ made.old.items }
 {
     let _ = facts;
-    next_is_right();
     right_is_sound();
     settled_is_enough();
     unfolding_ends();

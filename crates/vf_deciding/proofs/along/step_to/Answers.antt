@@ -3,8 +3,8 @@ use Rattle.vf_definitions.specs.Unfolded.{unfoldings_of}
 use Rattle.vf_deciding.proofs.Stepping.{stands_here, goes_on, fact_plain}
 use Rattle.vf_deciding.proofs.along.step_to.Goals as goal
 
-pub push-requires-clause-right : goal.push-requires-clause-right
-push-requires-clause-right c = (stands_here (unfoldings_of c.args.definitions.now) c.args.trail.now.facts c.args.nodes.now.items c.args.path.now c.requires.along).enough.right
+pub push-requires-clause-turn : goal.push-requires-clause-turn
+push-requires-clause-turn c = (stands_here (unfoldings_of c.args.definitions.now) c.args.trail.now.facts c.args.nodes.now.items c.args.path.now c.requires.along).enough.turn
 
 pub push-requires-clause-plain : goal.push-requires-clause-plain
 push-requires-clause-plain c = fact_plain c.args.trail.now.facts _ c.get.result.now c.requires.plain c.get.ensures

@@ -1,8 +1,12 @@
-use Rattle.std.proofs.Common.{rules, ◌≡◌, ◌++◌, ◌∷◌, [], length, ◌∙◌}
+use Rattle.std.proofs.Common.{rules, ◌≡◌, ◌++◌, ◌∷◌, [], length, sym, ◌∙◌, subst}
 use Rattle.vf_unfolding.specs.declared.mark.Mark.{Mark}
-use Rattle.vf_unfolding.specs.Walked.{kept}
+use Rattle.vf_unfolding.specs.Rounds.{AreInTurn}
+use Rattle.vf_unfolding.specs.Walked.{Walked, kept}
 use Rattle.vf_unfolding.proofs.Levels.{kept_goes_on, mark_is, path_push, push_means}
 use Rattle.vf_unfolding.proofs.path.Path.push.Goals as goal
+
+pub add-requires-clause-turn : goal.add-requires-clause-turn
+add-requires-clause-turn g c = subst (λ (w : Walked). AreInTurn (g.U.Unfolder.unfoldings c.args.unfolder.now) w.now.facts w.now.made) (sym c.self.view_is) c.requires.turn
 
 pub invariant_of-self-in-Ok : goal.invariant_of-self-in-Ok
 invariant_of-self-in-Ok g c =
