@@ -1,7 +1,7 @@
 -- What the answers to questions make right.
-use Rattle.std.proofs.Common.{◌≡◌, ◌<◌, ◌≤◌, ◌-◌, ℕ, zero, suc, List, [], ◌∷◌, ◌++◌, length, get_or, ap, subst, ◌∙◌, arith}
-use Rattle.std.specs.Prelude.{All, IsTrue}
-use Rattle.std.proofs.lemmas.Bool.{ltb-true, lt-ltb}
+use Rattle.std.proofs.Common.{◌≡◌, ◌<◌, ◌≤◌, ◌-◌, ℕ, zero, suc, Bool, false, List, [], ◌∷◌, ◌++◌, length, get_or, inl, inr, sym, ap, subst, ◌∙◌, arith}
+use Rattle.std.specs.Prelude.{All, IsTrue, ◌↔◌}
+use Rattle.std.proofs.lemmas.Bool.{false≢true, cases_lt, ltb-true, lt-ltb}
 use Rattle.std.proofs.lemmas.List.Elements.{All-append, All-map, All-weaker}
 use Rattle.vf_trail.specs.Trail.{path_of}
 use Rattle.vf_closure.specs.Literals.{denied}
@@ -9,8 +9,10 @@ use Rattle.vf_closure.specs.Literals as pure
 use Rattle.vf_formula.specs.Literals.{shown_literal}
 use Rattle.vf_formula.specs.declared.literal.Literal.{Literal}
 use Rattle.vf_question.specs.Plain.{IsPlainLiteral}
+use Rattle.vf_question.specs.Numbered.{terms_of}
 use Rattle.vf_question.specs.declared.numbering.TheConstants.{MOST_TERMS}
 use Rattle.vf_answer.specs.Answers.{asked_terms, IsAnswer}
+use Rattle.vf_answer.proofs.Counting.{facts_too_many}
 use Rattle.vf_answer.specs.declared.answer.Answer as answered
 use Rattle.vf_answer.specs.declared.answer.Answer.TheVariants as answers
 use Rattle.vf_definitions.specs.Unfolded.{unfoldings_of}
@@ -55,6 +57,10 @@ too_many path goal h = lt-ltb MOST_TERMS (length (asked_terms path goal)) h
 pub not_too_many : (path : List pure.Literal) (goal : pure.Literal) → length (asked_terms path goal) ≤ MOST_TERMS → IsTrue (has_too_many_terms path goal) → ⊥
 unfolding has_too_many_terms
 not_too_many path goal h t = let l = ltb-true MOST_TERMS (length (asked_terms path goal)) t in omega (arith, l, h)
+
+-- where a path has too many terms any question of it has
+pub too_many_on_path : (path : List pure.Literal) (goal : pure.Literal) (few : Bool) → few ≡ false → IsTrue few ↔ length (terms_of path) ≤ MOST_TERMS → MOST_TERMS < length (asked_terms path goal)
+too_many_on_path path goal few e h = elim (cases_lt MOST_TERMS (length (terms_of path))) [ inl l ↦ facts_too_many path goal l | inr l ↦ absurd (false≢true (sym e ∙ h.1 l)) ]
 
 there : (units : List (List Fixpoint)) (k : ℕ) (d : List Fixpoint) → k < length units → d ≡ get_or units k d → d ≡ definitions_at units k
 there [] k d l e = absurd (omega (arith, l))

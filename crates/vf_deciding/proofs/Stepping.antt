@@ -1,8 +1,9 @@
 -- Paths along the nodes of a trail.
-use Rattle.std.proofs.Common.{◌≡◌, ◌≤◌, ◌<◌, ◌+◌, ◌-◌, ℕ, zero, suc, List, [], ◌∷◌, ◌++◌, length, map, take, reverse, get_or, Some, refl, sym, ap, ap₂, ◌∙◌, subst, arith, add-one}
+use Rattle.std.proofs.Common.{◌≡◌, ◌≤◌, ◌<◌, ◌+◌, ◌-◌, ℕ, zero, suc, List, [], ◌∷◌, ◌++◌, length, map, take, reverse, get_or, Bool, Some, nat_le, refl, sym, ap, ap₂, ◌∙◌, subst, arith, add-one}
 use Rattle.std.specs.List.{AllZip}
-use Rattle.std.specs.Prelude.{option_map, slice_get, slice_index, IsTrue}
-use Rattle.std.proofs.lemmas.List.{length-append, length_push, length-map, map_push, reverse-append}
+use Rattle.std.specs.Prelude.{option_map, slice_get, slice_index, IsTrue, ◌↔◌}
+use Rattle.std.proofs.lemmas.Bool.{leb-true, le-leb}
+use Rattle.std.proofs.lemmas.List.{length-append, length_push, length-map, length-take-le, map_push, reverse-append}
 use Rattle.std.proofs.Math.Seq.{take-append_seam}
 use Rattle.vf_trail.specs.declared.node.Node.{Node}
 use Rattle.vf_trail.specs.Trail.{path_of}
@@ -12,14 +13,18 @@ use Rattle.vf_formula.specs.declared.literal.Literal as declared
 use Rattle.vf_formula.specs.Literals.{shown_literal}
 use Rattle.vf_unfolding.specs.Rounds.{AreEnough}
 use Rattle.vf_unfolding.specs.Walked.{Stand, Walked}
+use Rattle.vf_unfolding.proofs.Marks.{no_fewer_terms}
 use Rattle.vf_definitions.specs.declared.fixpoint.Fixpoint.{Fixpoint}
 use Rattle.vf_definitions.specs.Unfolded.{unfoldings_of}
+use Rattle.vf_question.specs.Numbered.{terms_of}
+use Rattle.vf_question.specs.declared.numbering.TheConstants.{MOST_TERMS}
 use Rattle.vf_question.specs.Plain.{IsPlainLiteral}
 use Rattle.vf_asking.specs.Plain.{is_plain_literal}
+use Rattle.vf_asking.specs.Journal.{path_to}
 use Rattle.vf_asking.specs.Whole.{ArePlainFacts}
 use Rattle.vf_asking.proofs.Testing.{plain_literals_decide}
 use Rattle.vf_deciding.specs.Held.{last_definitions}
-use Rattle.vf_deciding.specs.Along.{from_root, IsChild, LeadTo, IsStandAt, stands, IsAlong, StandBy, IsStanding}
+use Rattle.vf_deciding.specs.Along.{from_root, IsChild, LeadTo, IsStandAt, stands, IsAlong, HasCome, StandBy, IsStanding}
 
 -- ---- lists that go together
 module _ {A B : Type 0} (R : A → B → Type 0) where
@@ -184,6 +189,67 @@ next_child facts line nodes i n linked e l long is =
     let c : IsChild facts (slice_index (from_root line) i) (slice_index (from_root line) (suc i)) = rw add-one at k in
     subst (λ p. IsChild facts p n.number) (sym (ap (slice_index (from_root nodes)) long ∙ ap (λ ns. slice_index (from_root ns) i) e ∙ front_at 0 line i i (omega arith) (omega arith)))
     (subst (IsChild facts (slice_index (from_root line) i)) (number_at 0 line i n l is) c)
+
+-- ---- terms along a line of nodes
+
+-- what stands at a place of a trail
+record HasRow (facts : List (ℕ × declared.Literal)) (k : ℕ) : Type 0 where
+  fact : declared.Literal
+  is : option_map (λ row. row.1) (slice_get facts k) ≡ Some fact
+
+row_at : (facts : List (ℕ × declared.Literal)) (k : ℕ) → k < length facts → HasRow facts k
+row_at [] k l = absurd (omega arith)
+row_at (r ∷ rs) zero l = record { fact = r.1; is = refl }
+row_at (r ∷ rs) (suc k) l = let f = row_at rs k (omega arith) in record { fact = f.fact; is = f.is }
+
+-- a node has no fewer terms than the one that it hangs on
+child_terms : (facts : List (ℕ × declared.Literal)) (p n : ℕ) → IsChild facts p n → length (terms_of (path_to facts p)) ≤ length (terms_of (path_to facts n))
+child_terms facts p n c =
+    let r = row_at facts (n - 1) (omega (arith, c.positive, c.there)) in
+    let e : path_to facts n ≡ path_to facts p ++ shown_literal r.fact ∷ [] = ap (map shown_literal) (c.path r.fact r.is) ∙ map_push shown_literal (path_of facts p) r.fact in
+    let l = no_fewer_terms (path_to facts p) (shown_literal r.fact ∷ []) in
+    omega (arith, l, ap (λ ls. length (terms_of ls)) e)
+
+-- the end of a line has no fewer terms than a node of it
+end_terms : (facts : List (ℕ × declared.Literal)) (line : List Node) (at : ℕ) → LeadTo facts line at → (left k : ℕ) → k + left ≡ length line → length (terms_of (path_to facts (slice_index (from_root line) k))) ≤ length (terms_of (path_to facts at))
+end_terms facts line at h zero k e =
+    let q : k ≡ length line = omega (arith, e) in
+    omega (arith, ap (λ (n : ℕ). length (terms_of (path_to facts n))) (ap (slice_index (from_root line)) q ∙ h.ends))
+end_terms facts line at h (suc left) k e =
+    let c = child_terms facts (slice_index (from_root line) k) (slice_index (from_root line) (k + 1)) (h.linked k (omega (arith, e))) in
+    let r = end_terms facts line at h left (k + 1) (omega (arith, e)) in
+    omega (arith, c, r)
+
+module _ (u : Unfoldings) (facts : List (ℕ × declared.Literal)) (line nodes : List Node) (at : ℕ) (w : Walked) (leads : LeadTo facts line at) (along : IsAlong u facts nodes w) where
+  -- at the end of the line the path has the facts of the node
+  pub facts_at_end : nodes ≡ line → w.now.facts ≡ path_to facts at
+  facts_at_end e = (stands_here u facts nodes w along).facts ∙ ap (path_to facts) (ap (λ ns. slice_index (from_root ns) (length ns)) e ∙ leads.ends)
+
+  module _ (come : HasCome line nodes w) where
+    its_node : slice_index (from_root nodes) (length nodes) ≡ slice_index (from_root line) come.passed
+    its_node =
+        let long : length nodes ≡ come.passed = ap length come.front ∙ length-take-le come.passed line come.within in
+        ap (slice_index (from_root nodes)) long ∙ ap (λ ns. slice_index (from_root ns) come.passed) come.front ∙ front_at 0 line come.passed come.passed come.within (omega arith)
+
+    -- the node has no fewer terms than where the path has come to
+    no_fewer_at_end : length (terms_of w.now.facts) ≤ length (terms_of (path_to facts at))
+    no_fewer_at_end =
+        let e = (stands_here u facts nodes w along).facts ∙ ap (path_to facts) its_node in
+        let l = end_terms facts line at leads (length line - come.passed) come.passed (omega (arith, come.within)) in
+        omega (arith, l, ap (λ ls. length (terms_of ls)) e)
+
+    -- where the path has come to tells whether the node has few terms
+    pub few_at_end : (few : Bool) (count : ℕ) → few ≡ nat_le count MOST_TERMS → count ≡ length (terms_of w.now.facts) → IsTrue few ↔ length (terms_of (path_to facts at)) ≤ MOST_TERMS
+    few_at_end few count e n = (
+      (λ t.
+          let l = leb-true count MOST_TERMS (sym e ∙ t) in
+          let f = facts_at_end (come.ends (omega (arith, l, n))) in
+          omega (arith, l, n, ap (λ ls. length (terms_of ls)) f)),
+      (λ m. e ∙ le-leb count MOST_TERMS (omega (arith, m, n, no_fewer_at_end))),
+    )
+
+    pub facts_where_few : (few : Bool) (count : ℕ) → few ≡ nat_le count MOST_TERMS → count ≡ length (terms_of w.now.facts) → IsTrue few → w.now.facts ≡ path_to facts at
+    facts_where_few few count e n t = let l = leb-true count MOST_TERMS (sym e ∙ t) in facts_at_end (come.ends (omega (arith, l, n)))
 
 -- a fact of a trail of plain facts is plain
 plain_at : (facts : List (ℕ × declared.Literal)) (k : ℕ) (fact : declared.Literal) → ArePlainFacts facts → option_map (λ row. row.1) (slice_get facts k) ≡ Some fact → IsPlainLiteral (shown_literal fact)

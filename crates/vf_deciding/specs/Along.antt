@@ -1,5 +1,5 @@
 -- Where the path of a prover stands on a trail.
-use Rattle.std.specs.Prelude.{◌≡◌, ℕ, ◌+◌, ◌-◌, ◌<◌, ◌≤◌, List, [], ◌∷◌, ◌++◌, length, map, Some, option_map, slice_get, slice_index}
+use Rattle.std.specs.Prelude.{◌≡◌, ℕ, ◌+◌, ◌-◌, ◌<◌, ◌≤◌, List, [], ◌∷◌, ◌++◌, length, map, Some, option_map, slice_get, slice_index, take}
 use Rattle.std.specs.List.{AllZip}
 use Rattle.vf_trail.specs.declared.node.Node.{Node}
 use Rattle.vf_trail.specs.Trail.{path_of}
@@ -7,6 +7,8 @@ use Rattle.vf_closure.specs.Closure.{Unfoldings}
 use Rattle.vf_formula.specs.declared.literal.Literal as declared
 use Rattle.vf_definitions.specs.declared.fixpoint.Fixpoint.{Fixpoint}
 use Rattle.vf_definitions.specs.Unfolded.{unfoldings_of}
+use Rattle.vf_question.specs.Numbered.{terms_of}
+use Rattle.vf_question.specs.declared.numbering.TheConstants.{MOST_TERMS}
 use Rattle.vf_unfolding.specs.Rounds.{AreEnough}
 use Rattle.vf_unfolding.specs.Walked.{Stand, Walked}
 use Rattle.vf_asking.specs.Journal.{path_to}
@@ -40,6 +42,13 @@ stands w = w.levels ++ w.now ∷ []
 -- a path stood at the root and at each of some nodes in turn, and stands at the last
 abbrev pub IsAlong : Unfoldings → List (ℕ × declared.Literal) → List Node → Walked → Type 0
 IsAlong u facts nodes w = AllZip (IsStandAt u facts) (from_root nodes) (stands w)
+
+-- a path has come to a node of a line, and to its end where the facts have no more terms than a question may have
+pub record HasCome (line nodes : List Node) (w : Walked) : Type 0 where
+  pub passed : ℕ
+  pub within : passed ≤ length line
+  pub front : nodes ≡ take passed line
+  pub ends : length (terms_of w.now.facts) ≤ MOST_TERMS → nodes ≡ line
 
 -- the path that is kept, if there is one, stands along some nodes; where there is none there are no nodes
 abbrev pub StandBy : Unfoldings → List (ℕ × declared.Literal) → List Walked → List Node → Type 0

@@ -23,7 +23,8 @@ use vf_formula::Literal;
 use vf_trail::{Node, Trail};
 use vf_unfolding::Path;
 
-/// The answer to the question of the goal under the facts of a node's path, to which the path goes.
+/// The answer to the question of the goal under the facts of a node's path, to which the path goes where
+/// they have no more terms than a question may have.
 fn answer_along(
     trail: &Trail<Literal>,
     definitions: &Definitions,
@@ -39,8 +40,12 @@ fn answer_along(
     ensures along { IsAlong (unfoldings_of definitions.now) trail.now.facts nodes.new.items path.new }
     ensures answer { IfOk result (IsAnswer (unfoldings_of definitions.now) (path_to trail.now.facts at.number) (shown_literal goal.now)) }
 {
-    go_to(trail, definitions, path, nodes, at)?;
-    answered_along(trail.allocator(), definitions, path, goal)
+    let few = go_to(trail, definitions, path, nodes, at)?;
+    if few {
+        answered_along(trail.allocator(), definitions, path, goal)
+    } else {
+        Ok(vf_answer::Answer::Terms)
+    }
 }
 
 /// Takes the path that is kept, or makes one that stands at the root.
