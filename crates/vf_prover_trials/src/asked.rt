@@ -1,0 +1,157 @@
+//! Facts and questions that are put to a prover.
+
+ghost use Rattle.std.specs.Prelude.{◌<◌, length, IfOk};
+ghost use Rattle.vf_asking.specs.Journal.{HasNode, Grew};
+
+use crate::lists::{Relation, definitions, literals};
+use std::alloc::Global;
+use vf_asking::{Asker, Journal, can_be_asked, can_be_fact, holds, note};
+use vf_base::{Memory, Place, RuleFault};
+use vf_deciding::Prover;
+use vf_definitions::Definitions;
+use vf_formula::Literal;
+use vf_trail::Node;
+
+/// Where the facts and the goals stand.
+const PLACE: Place = Place {
+    file: 0,
+    line: 4,
+    column: 5,
+};
+
+/// Why there is no answer.
+#[derive(Debug, Drop)]
+pub(crate) enum NoAnswer {
+    /// A literal may be no fact or no goal.
+    Unfit,
+    Fault(RuleFault),
+}
+
+impl From<RuleFault> for NoAnswer {
+    fn from(fault: RuleFault) -> NoAnswer {
+        NoAnswer::Fault(fault)
+    }
+}
+
+impl From<Memory> for NoAnswer {
+    fn from(_: Memory) -> NoAnswer {
+        NoAnswer::Fault(RuleFault::Memory)
+    }
+}
+
+/// Hangs a literal on a node.
+#[tactic(auto, using(vf_asking::proofs::Seeing::grown))]
+fn hang_literal(prover: &mut Prover, at: Node, fact: &Literal) -> Result<Node, NoAnswer>
+    requires begun { 0 < length prover.old.journal.units }
+    requires there { HasNode prover.old.journal at }
+    ensures grew { Grew prover.old.journal prover.new.journal }
+    ensures there { IfOk result (λ node. HasNode prover.new.journal node) }
+{
+    if !can_be_fact(fact) {
+        return Err(NoAnswer::Unfit);
+    }
+    let node = note(prover, at, fact, PLACE)?;
+    Ok(node)
+}
+
+/// Hangs literals on a node, each on the one before.
+#[tactic(auto, using(vf_asking::proofs::Seeing::grown))]
+fn hang_literals(prover: &mut Prover, at: Node, facts: &[Literal]) -> Result<Node, NoAnswer>
+    requires begun { 0 < length prover.old.journal.units }
+    requires there { HasNode prover.old.journal at }
+    ensures grew { Grew prover.old.journal prover.new.journal }
+    ensures there { IfOk result (λ node. HasNode prover.new.journal node) }
+{
+    let mut node = at;
+    for fact in facts {
+        node = hang_literal(prover, node, fact)?;
+    }
+    Ok(node)
+}
+
+/// Hangs facts on a node, each on the one before.
+#[tactic(auto, using(vf_asking::proofs::Seeing::grown))]
+pub(crate) fn hang(
+    alloc: Global,
+    prover: &mut Prover,
+    at: Node,
+    facts: &[Relation],
+) -> Result<Node, NoAnswer>
+    requires begun { 0 < length prover.old.journal.units }
+    requires there { HasNode prover.old.journal at }
+    ensures grew { Grew prover.old.journal prover.new.journal }
+    ensures there { IfOk result (λ node. HasNode prover.new.journal node) }
+{
+    let facts = literals(alloc, facts)?;
+    hang_literals(prover, at, &facts)
+}
+
+/// Whether a literal is proved at a node.
+#[tactic(auto, using(vf_asking::proofs::Seeing::grown))]
+fn is_literal_proved(prover: &mut Prover, at: Node, goal: &Literal) -> Result<bool, NoAnswer>
+    requires begun { 0 < length prover.old.journal.units }
+    requires there { HasNode prover.old.journal at }
+    ensures grew { Grew prover.old.journal prover.new.journal }
+{
+    if !can_be_asked(goal) {
+        return Err(NoAnswer::Unfit);
+    }
+    let proved = holds(prover, at, goal, PLACE)?;
+    Ok(proved)
+}
+
+/// Whether a goal is proved at a node.
+#[tactic(auto, using(vf_asking::proofs::Seeing::grown))]
+pub(crate) fn is_proved(
+    alloc: Global,
+    prover: &mut Prover,
+    at: Node,
+    goal: Relation,
+) -> Result<bool, NoAnswer>
+    requires begun { 0 < length prover.old.journal.units }
+    requires there { HasNode prover.old.journal at }
+    ensures grew { Grew prover.old.journal prover.new.journal }
+{
+    let goals = literals(alloc, &[goal])?;
+    match goals.first() {
+        Some(goal) => is_literal_proved(prover, at, goal),
+        None => Err(NoAnswer::Unfit),
+    }
+}
+
+/// Whether a goal is proved behind facts.
+#[tactic(auto, using(vf_asking::proofs::Seeing::grown))]
+fn is_proved_behind(
+    alloc: Global,
+    prover: &mut Prover,
+    root: Node,
+    facts: &[Relation],
+    goal: Relation,
+) -> Result<bool, NoAnswer>
+    requires begun { 0 < length prover.old.journal.units }
+    requires there { HasNode prover.old.journal root }
+{
+    let node = hang(alloc, prover, root, facts)?;
+    is_proved(alloc, prover, node, goal)
+}
+
+/// The same, of a new prover.
+#[tactic(auto, using(vf_asking::proofs::Seeing::beginning))]
+fn is_proved_with(
+    alloc: Global,
+    definitions: &Definitions,
+    facts: &[Relation],
+    goal: Relation,
+) -> Result<bool, NoAnswer> {
+    let mut prover = Prover::new(Journal::new(alloc));
+    match prover.begin(definitions) {
+        Ok(root) => is_proved_behind(alloc, &mut prover, root, facts, goal),
+        Err(_) => Err(NoAnswer::Fault(RuleFault::Memory)),
+    }
+}
+
+/// The same, in a unit that has `length`.
+pub(crate) fn answer(alloc: Global, facts: &[Relation], goal: Relation) -> Result<bool, NoAnswer> {
+    let definitions = definitions(alloc)?;
+    is_proved_with(alloc, &definitions, facts, goal)
+}
