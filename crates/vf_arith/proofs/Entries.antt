@@ -9,9 +9,9 @@ use Rattle.std.proofs.lemmas.List.Elements.{Contains-push, Contains-push_cases}
 use Rattle.std.proofs.lemmas.Bool.{cases_lt}
 use Rattle.std.proofs.lemmas.Option.{none-some}
 use Rattle.std.proofs.lemmas.List.{get_or_default}
-use Rattle.std.proofs.Math.Seq.{take-append_seam}
+use Rattle.std.proofs.Math.Seq.{take-append_seam, get_or-append_seam}
 use Rattle.std.proofs.Common.{take}
-use Rattle.std.proofs.Math.ListN.{get_or-eq_default}
+use Rattle.std.proofs.Math.ListN.{get_or-append, get_or-eq_default}
 use borrow.Author.Tests.{eqb-true, eq-eqb}
 use Rattle.vf_arith.specs.declared.bounds.Edge.{Edge}
 use Rattle.vf_arith.specs.Paths.{Path, path_none, path_edge, IsLeast, HasNegativeCycle, IsSmall}
@@ -161,6 +161,13 @@ rows_small size edges c matrix now row p is unset same inp made =
 
 pub written : (n : ℕ) (new rest : List (Option ℤ)) → length new ≡ n → take n (new ++ rest) ≡ new
 written n new rest e = rw (← e) (take-append_seam new rest)
+
+-- what holds of each entry holds of each when one more has it
+pub entries_push : (P : ℕ → Option ℤ → Type 0) (k : ℕ) (xs ys : List (Option ℤ)) (v : Option ℤ) → length xs ≡ k → ys ≡ xs ++ v ∷ [] → ((j : ℕ) → j < k → P j (entry xs j)) → P k v → (j : ℕ) → j < k + 1 → P j (entry ys j)
+entries_push P k xs ys v long made each last j l = elim (cases_lt j k) [
+  | inl i ↦ subst (P j) (sym (ap (λ zs. entry zs j) made ∙ get_or-append xs (v ∷ []) None j (omega arith))) (each j i)
+  | inr i ↦ (let e : k ≡ j = omega arith in subst (λ n. P n (entry ys n)) e (subst (P k) (sym (ap (λ zs. entry zs k) made ∙ subst (λ n. entry (xs ++ v ∷ []) n ≡ v) long (get_or-append_seam xs v [] None))) last))
+]
 
 -- ---- the weight
 

@@ -18,6 +18,14 @@ const SMALL: i128 = 1 << 100;
 /// what a machine can address.
 pub const MOST_POINTS: u32 = 1 << 24;
 
+/// A matrix that would come to have this many points is made for a whole question at once: a matrix
+/// is made beside the one before it, and of two large ones both are in memory then.
+const LARGE: u32 = 640;
+
+/// The points of a whole question, with a few to spare: it has at most 1,024 terms, and 0 is a point
+/// too.
+const QUESTION_POINTS: u32 = 1_032;
+
 /// A bound: the point `from` less the point `to` is at most `most`.
 #[derive(Clone, Copy, Debug)]
 pub struct Edge {
@@ -48,7 +56,9 @@ fn more_room(width: u32) -> u32
     ensures few { result ≤ MOST_POINTS }
 {
     let more = width + width / 8 + 8;
-    if more < MOST_POINTS {
+    if width < QUESTION_POINTS && LARGE <= more {
+        QUESTION_POINTS
+    } else if more < MOST_POINTS {
         more
     } else {
         MOST_POINTS

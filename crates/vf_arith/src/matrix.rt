@@ -78,7 +78,7 @@ pub fn without_edges(alloc: Global, size: u32) -> Result<Vec<Option<i128>>, Memo
     ensures entries { IfOk result (λ v. (k : ℕ) → k < size * size → entry v.items k ≡ (if k / size == k % size then Some (pos 0) else None)) }
 {
     let size = size as usize;
-    let mut matrix = Vec::new(alloc);
+    let mut matrix = Vec::with_capacity(alloc, size * size)?;
     for k in 0..size * size {
         matrix.push(if k / size == k % size { Some(0) } else { None })?;
     }
@@ -112,7 +112,7 @@ pub fn widened(
     ensures entries { IfOk result (λ v. (x y : ℕ) → x < width → y < width → IsDistanceIn size (distance size matrix.now) x y (distance width v.items x y)) }
 {
     let width = width as usize;
-    let mut wide = Vec::new(alloc);
+    let mut wide = Vec::with_capacity(alloc, width * width)?;
     for k in 0..width * width {
         let x = (k / width) as u32;
         let y = (k % width) as u32;
