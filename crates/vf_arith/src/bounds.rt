@@ -18,9 +18,9 @@ const SMALL: i128 = 1 << 100;
 /// what a machine can address.
 pub const MOST_POINTS: u32 = 1 << 24;
 
-/// A matrix that would come to have this many points is made for a whole question at once: a matrix
-/// is made beside the one before it, and of two large ones both are in memory then.
-const LARGE: u32 = 640;
+/// So many points that there is room for a whole question in one step instead: a matrix is kept until
+/// the wider one is made, and two large ones are not to be in memory together.
+const MANY_POINTS: u32 = 640;
 
 /// The points of a whole question, with a few to spare: it has at most 1,024 terms, and 0 is a point
 /// too.
@@ -56,7 +56,7 @@ fn more_room(width: u32) -> u32
     ensures few { result ≤ MOST_POINTS }
 {
     let more = width + width / 8 + 8;
-    if width < QUESTION_POINTS && LARGE <= more {
+    if width < QUESTION_POINTS && MANY_POINTS <= more {
         QUESTION_POINTS
     } else if more < MOST_POINTS {
         more
