@@ -8,7 +8,7 @@ ghost use Rattle.vf_recheck.specs.Closure.{HasConflict};
 ghost use Rattle.vf_recheck.specs.Refutations.{GoesOn, Ends, IsTold, IsRefutation};
 
 use crate::ending::ends;
-use crate::facts::facts;
+use crate::facts::facts_over;
 use crate::numbering::number_all;
 use crate::steps::Step;
 use crate::unfolding::{by_case, to_body};
@@ -72,7 +72,7 @@ pub fn recheck<U: Unfolder>(
     let mut nodes = Vec::new(alloc);
     let mut terms = Vec::new(alloc);
     number_all(alloc, &mut nodes, &mut terms, literals)?;
-    let facts = facts(alloc, &terms, literals)?;
+    let facts = facts_over(alloc, &terms, literals)?;
     let mut known: Vec<Derived> = Vec::new(alloc);
     for (i, step) in steps.iter().enumerate() {
         if i + 1 == steps.len() {

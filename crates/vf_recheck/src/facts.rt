@@ -37,11 +37,7 @@ fn fact(terms: &[Term], literal: &Literal) -> Fact
 }
 
 /// Literals as facts over the numbers of some terms.
-pub(crate) fn facts(
-    alloc: Global,
-    terms: &[Term],
-    literals: &[Literal],
-) -> Result<Vec<Fact>, Memory>
+pub fn facts_over(alloc: Global, terms: &[Term], literals: &[Literal]) -> Result<Vec<Fact>, Memory>
     requires { length terms.now < 2 ^ 32 }
     ensures { IfOk result (λ v. v.items ≡ map (tabled_fact terms.now) (map shown_literal literals.now)) }
 {

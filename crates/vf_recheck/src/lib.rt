@@ -16,8 +16,10 @@ mod steps;
 mod unfolding;
 
 pub use checking::recheck;
+pub use facts::facts_over;
 pub use laws::{
     conflicts_are_met_by_none, definitions_entail, refutations_are_sound,
     refutations_show_conflicts,
 };
-pub use steps::Step;
+pub use numbering::{number_all, number_term};
+pub use steps::{Refutation, Step};

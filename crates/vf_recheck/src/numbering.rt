@@ -68,7 +68,7 @@ fn add_one(
 }
 
 /// Answers the number of a term, which is put behind its parts where it is not there.
-pub(crate) fn number_term(
+pub fn number_term(
     alloc: Global,
     nodes: &mut Vec<Node>,
     terms: &mut Vec<Term>,
@@ -148,7 +148,7 @@ fn number_literals(
 }
 
 /// Numbers the terms of some literals, and 0 behind them, in an empty table.
-pub(crate) fn number_all(
+pub fn number_all(
     alloc: Global,
     nodes: &mut Vec<Node>,
     terms: &mut Vec<Term>,

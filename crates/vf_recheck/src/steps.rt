@@ -12,3 +12,9 @@ pub enum Step {
     /// which a step says that the argument that it goes by is equal.
     ByCase(u32, u32),
 }
+
+/// The steps of a refutation, in order.
+#[derive(Debug, Drop)]
+pub struct Refutation {
+    pub steps: Vec<Step>,
+}
