@@ -82,6 +82,9 @@ pub trait Asker {
     // how many entries the journal held when the asker was made; no call changes it
     ghost origin: { Self → ℕ };
 
+    // how many entries the journal held when the asker was last asked for a refutation; no call here changes it
+    ghost handed: { Self → ℕ };
+
     /// Begins the next unit, counted from 0, with a copy of its definitions, and answers the root.
     fn begin(&mut self, defs: &Definitions) -> Result<Node, AskFault>
         requires { length (journal self.old).units + 1 < 2 ^ 32 }
@@ -89,7 +92,8 @@ pub trait Asker {
         ensures root { IfOk result (λ node. node.number ≡ 0) }
         ensures memory { IsOkUnless result AskFault.Memory }
         ensures unchanged { OnErr result (IsAsBefore (journal self.old) (journal self.new)) }
-        ensures origin { origin self.new ≡ origin self.old };
+        ensures origin { origin self.new ≡ origin self.old }
+        ensures handed { handed self.new ≡ handed self.old };
 
     /// Hangs a fact on a node.
     fn push(&mut self, at: Node, fact: &Literal) -> Result<Node, AskFault>
@@ -103,7 +107,8 @@ pub trait Asker {
             ↔ (MOST_FACTS ≤ length (journal self.old).trail.facts) }
         ensures never_terms { IsErrOf result AskFault.Terms → ⊥ }
         ensures unchanged { OnErr result (IsAsBefore (journal self.old) (journal self.new)) }
-        ensures origin { origin self.new ≡ origin self.old };
+        ensures origin { origin self.new ≡ origin self.old }
+        ensures handed { handed self.new ≡ handed self.old };
 
     /// Answers whether the goal follows from the facts of a node's path.
     fn ask(&mut self, at: Node, goal: &Literal) -> Result<Answer, AskFault>
@@ -120,5 +125,6 @@ pub trait Asker {
             (IsTrue (has_too_many_terms (path_at (journal self.old) at) (shown_literal goal.now)) → ⊥) }
         ensures never_full { IsErrOf result AskFault.Full → ⊥ }
         ensures unchanged { OnErr result (IsAsBefore (journal self.old) (journal self.new)) }
-        ensures origin { origin self.new ≡ origin self.old };
+        ensures origin { origin self.new ≡ origin self.old }
+        ensures handed { handed self.new ≡ handed self.old };
 }

@@ -1,8 +1,8 @@
 -- What the answers to questions make right.
-use Rattle.std.proofs.Common.{◌≡◌, ◌<◌, ◌≤◌, ◌-◌, ℕ, zero, suc, Bool, false, List, [], ◌∷◌, ◌++◌, length, get_or, inl, inr, sym, ap, subst, ◌∙◌, arith}
+use Rattle.std.proofs.Common.{◌≡◌, ◌<◌, ◌≤◌, ◌-◌, ℕ, zero, suc, Bool, false, List, [], ◌∷◌, length, get_or, inl, inr, sym, ap, subst, ◌∙◌, arith}
 use Rattle.std.specs.Prelude.{All, IsTrue, ◌↔◌}
 use Rattle.std.proofs.lemmas.Bool.{false≢true, cases_lt, ltb-true, lt-ltb}
-use Rattle.std.proofs.lemmas.List.Elements.{All-append, All-map, All-weaker}
+use Rattle.std.proofs.lemmas.List.Elements.{All-map, All-weaker}
 use Rattle.vf_trail.specs.Trail.{path_of}
 use Rattle.vf_closure.specs.Literals.{denied}
 use Rattle.vf_closure.specs.Literals as pure
@@ -19,22 +19,20 @@ use Rattle.vf_definitions.specs.Unfolded.{unfoldings_of}
 use Rattle.vf_definitions.specs.declared.fixpoint.Fixpoint.{Fixpoint}
 use Rattle.vf_definitions.proofs.Soundness.{definitions_entail}
 use Rattle.vf_asking.specs.declared.answers.Answer.TheVariants.{Proved, Unknown}
-use Rattle.vf_asking.specs.Plain.{is_plain_literal, CanBeAsked}
+use Rattle.vf_asking.specs.Plain.{is_plain_literal}
 use Rattle.vf_asking.specs.Question.{has_too_many_terms}
 use Rattle.vf_asking.specs.Journal.{path_to, definitions_at}
 use Rattle.vf_asking.specs.Whole.{ArePlainFacts}
-use Rattle.vf_asking.proofs.Testing.{plain_literals_decide, denied_plain}
+use Rattle.vf_asking.proofs.Testing.{plain_literals_decide}
 use Rattle.vf_deciding.specs.Held.{last_definitions, IsRightAnswer}
 use Rattle.vf_deciding.proofs.Walking.{all_on_path}
 
--- the facts of a path and a goal that can be asked make a question between plain terms
-pub question_plain : (facts : List (ℕ × Literal)) (node : ℕ) (goal : pure.Literal) → ArePlainFacts facts → CanBeAsked goal → All IsPlainLiteral (path_to facts node ++ denied goal)
-question_plain facts node goal h a =
-    All-append IsPlainLiteral (path_to facts node) (denied goal)
-    (All-map IsPlainLiteral shown_literal (path_of facts node)
+-- the facts of a path are plain
+pub path_plain : (facts : List (ℕ × Literal)) (node : ℕ) → ArePlainFacts facts → All IsPlainLiteral (path_to facts node)
+path_plain facts node h =
+    All-map IsPlainLiteral shown_literal (path_of facts node)
     (All-weaker (λ (l : Literal). IsTrue (is_plain_literal (shown_literal l))) (λ (l : Literal). IsPlainLiteral (shown_literal l)) (λ l e. (plain_literals_decide (shown_literal l)).0 e) (path_of facts node)
-    (all_on_path (λ (l : Literal). IsTrue (is_plain_literal (shown_literal l))) facts node h)))
-    (denied_plain goal a)
+    (all_on_path (λ (l : Literal). IsTrue (is_plain_literal (shown_literal l))) facts node h))
 
 pub right_proved : (fs : List Fixpoint) (path : List pure.Literal) (goal : pure.Literal) → IsAnswer (unfoldings_of fs) path goal answers.Proved → IsRightAnswer fs path goal Proved
 right_proved fs path goal a unit = record {

@@ -2,3 +2,4 @@ pub mod Walking
 pub mod Answering
 pub mod Staying
 pub mod Stepping
+pub mod Handing

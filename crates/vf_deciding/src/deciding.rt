@@ -49,7 +49,7 @@ fn answer_along(
 }
 
 /// Takes the path that is kept, or makes one that stands at the root.
-fn take_path(
+pub(crate) fn take_path(
     trail: &Trail<Literal>,
     definitions: &Definitions,
     paths: &mut Vec<Path>,

@@ -74,6 +74,9 @@ impl Asker for Prover {
 
     ghost origin = { λ p. p.origin };
 
+    // it hands over no refutation
+    ghost handed = { λ p. 0 };
+
     fn begin(&mut self, defs: &Definitions) -> Result<Node, AskFault> {
         self.journal.begin(defs)?;
         self.paths.clear();
