@@ -1,0 +1,2 @@
+pub mod Bared
+pub mod Meant

@@ -1,0 +1,4 @@
+pub mod Truths
+pub mod Shown
+pub mod Laws
+pub mod Examples
