@@ -1,10 +1,10 @@
-//! Facts and questions that are put to a prover.
+//! Facts and questions that are put to a prover, or to another asker.
 
 ghost use Rattle.std.specs.Prelude.{◌<◌, length, IfOk};
 ghost use Rattle.vf_asking.specs.Journal.{HasNode, Grew};
 
 use crate::lists::{Relation, definitions, literals};
-use std::alloc::Global;
+use std::alloc::{AllocFailed, Global};
 use vf_asking::{Asker, Journal, can_be_asked, can_be_fact, holds, note};
 use vf_base::{Memory, Place, RuleFault};
 use vf_deciding::Prover;
@@ -39,100 +39,106 @@ impl From<Memory> for NoAnswer {
     }
 }
 
+impl<T: Drop> From<AllocFailed<T>> for NoAnswer {
+    fn from(_: AllocFailed<T>) -> NoAnswer {
+        NoAnswer::Fault(RuleFault::Memory)
+    }
+}
+
 /// Hangs a literal on a node.
 #[tactic(auto, using(vf_asking::proofs::Seeing::grown))]
-fn hang_literal(prover: &mut Prover, at: Node, fact: &Literal) -> Result<Node, NoAnswer>
-    requires begun { 0 < length prover.old.journal.units }
-    requires there { HasNode prover.old.journal at }
-    ensures grew { Grew prover.old.journal prover.new.journal }
-    ensures there { IfOk result (λ node. HasNode prover.new.journal node) }
+fn hang_literal<A: Asker>(asker: &mut A, at: Node, fact: &Literal) -> Result<Node, NoAnswer>
+    requires begun { 0 < length (A.journal asker.old).units }
+    requires there { HasNode (A.journal asker.old) at }
+    ensures grew { Grew (A.journal asker.old) (A.journal asker.new) }
+    ensures there { IfOk result (λ node. HasNode (A.journal asker.new) node) }
 {
     if !can_be_fact(fact) {
         return Err(NoAnswer::Unfit);
     }
-    let node = note(prover, at, fact, PLACE)?;
+    let node = note(asker, at, fact, PLACE)?;
     Ok(node)
 }
 
 /// Hangs literals on a node, each on the one before.
 #[tactic(auto, using(vf_asking::proofs::Seeing::grown))]
-fn hang_literals(prover: &mut Prover, at: Node, facts: &[Literal]) -> Result<Node, NoAnswer>
-    requires begun { 0 < length prover.old.journal.units }
-    requires there { HasNode prover.old.journal at }
-    ensures grew { Grew prover.old.journal prover.new.journal }
-    ensures there { IfOk result (λ node. HasNode prover.new.journal node) }
+fn hang_literals<A: Asker>(asker: &mut A, at: Node, facts: &[Literal]) -> Result<Node, NoAnswer>
+    requires begun { 0 < length (A.journal asker.old).units }
+    requires there { HasNode (A.journal asker.old) at }
+    ensures grew { Grew (A.journal asker.old) (A.journal asker.new) }
+    ensures there { IfOk result (λ node. HasNode (A.journal asker.new) node) }
 {
     let mut node = at;
     for fact in facts {
-        node = hang_literal(prover, node, fact)?;
+        node = hang_literal(asker, node, fact)?;
     }
     Ok(node)
 }
 
 /// Hangs facts on a node, each on the one before.
 #[tactic(auto, using(vf_asking::proofs::Seeing::grown))]
-pub(crate) fn hang(
+pub(crate) fn hang<A: Asker>(
     alloc: Global,
-    prover: &mut Prover,
+    asker: &mut A,
     at: Node,
     facts: &[Relation],
 ) -> Result<Node, NoAnswer>
-    requires begun { 0 < length prover.old.journal.units }
-    requires there { HasNode prover.old.journal at }
-    ensures grew { Grew prover.old.journal prover.new.journal }
-    ensures there { IfOk result (λ node. HasNode prover.new.journal node) }
+    requires begun { 0 < length (A.journal asker.old).units }
+    requires there { HasNode (A.journal asker.old) at }
+    ensures grew { Grew (A.journal asker.old) (A.journal asker.new) }
+    ensures there { IfOk result (λ node. HasNode (A.journal asker.new) node) }
 {
     let facts = literals(alloc, facts)?;
-    hang_literals(prover, at, &facts)
+    hang_literals(asker, at, &facts)
 }
 
 /// Whether a literal is proved at a node.
 #[tactic(auto, using(vf_asking::proofs::Seeing::grown))]
-fn is_literal_proved(prover: &mut Prover, at: Node, goal: &Literal) -> Result<bool, NoAnswer>
-    requires begun { 0 < length prover.old.journal.units }
-    requires there { HasNode prover.old.journal at }
-    ensures grew { Grew prover.old.journal prover.new.journal }
+fn is_literal_proved<A: Asker>(asker: &mut A, at: Node, goal: &Literal) -> Result<bool, NoAnswer>
+    requires begun { 0 < length (A.journal asker.old).units }
+    requires there { HasNode (A.journal asker.old) at }
+    ensures grew { Grew (A.journal asker.old) (A.journal asker.new) }
 {
     if !can_be_asked(goal) {
         return Err(NoAnswer::Unfit);
     }
-    let proved = holds(prover, at, goal, PLACE)?;
+    let proved = holds(asker, at, goal, PLACE)?;
     Ok(proved)
 }
 
 /// Whether a goal is proved at a node.
 #[tactic(auto, using(vf_asking::proofs::Seeing::grown))]
-pub(crate) fn is_proved(
+pub(crate) fn is_proved<A: Asker>(
     alloc: Global,
-    prover: &mut Prover,
+    asker: &mut A,
     at: Node,
     goal: Relation,
 ) -> Result<bool, NoAnswer>
-    requires begun { 0 < length prover.old.journal.units }
-    requires there { HasNode prover.old.journal at }
-    ensures grew { Grew prover.old.journal prover.new.journal }
+    requires begun { 0 < length (A.journal asker.old).units }
+    requires there { HasNode (A.journal asker.old) at }
+    ensures grew { Grew (A.journal asker.old) (A.journal asker.new) }
 {
     let goals = literals(alloc, &[goal])?;
     match goals.first() {
-        Some(goal) => is_literal_proved(prover, at, goal),
+        Some(goal) => is_literal_proved(asker, at, goal),
         None => Err(NoAnswer::Unfit),
     }
 }
 
 /// Whether a goal is proved behind facts.
 #[tactic(auto, using(vf_asking::proofs::Seeing::grown))]
-fn is_proved_behind(
+fn is_proved_behind<A: Asker>(
     alloc: Global,
-    prover: &mut Prover,
+    asker: &mut A,
     root: Node,
     facts: &[Relation],
     goal: Relation,
 ) -> Result<bool, NoAnswer>
-    requires begun { 0 < length prover.old.journal.units }
-    requires there { HasNode prover.old.journal root }
+    requires begun { 0 < length (A.journal asker.old).units }
+    requires there { HasNode (A.journal asker.old) root }
 {
-    let node = hang(alloc, prover, root, facts)?;
-    is_proved(alloc, prover, node, goal)
+    let node = hang(alloc, asker, root, facts)?;
+    is_proved(alloc, asker, node, goal)
 }
 
 /// The same, of a new prover.

@@ -1,9 +1,11 @@
-//! Trials of the prover: short questions, questions at two leaves of one trail, and questions that have as many terms
-//! as they may.
+//! Trials of the prover: short questions and refutations of them, questions at two leaves of one trail, and questions
+//! that have as many terms as they may.
 #![tactic(auto)]
 
 #[cfg(test)]
 mod asked;
+#[cfg(test)]
+mod explained;
 #[cfg(test)]
 mod leaves;
 #[cfg(test)]

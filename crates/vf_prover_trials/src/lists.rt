@@ -19,12 +19,20 @@ pub(crate) enum Side {
     Nil,
     /// `cons` of an integer symbol and a list.
     Cons(u64, u64),
+    /// `cons(x, nil)` of an integer symbol `x`.
+    Only(u64),
+    /// `cons(1, xs)` of a list `xs`.
+    BehindOne(u64),
+    /// `cons(1, cons(2, nil))`
+    OneAndTwo,
     /// The length of a list.
     Length(u64),
     /// `length(cons(1, xs))` of a list `xs`.
     LengthBehindOne(u64),
     /// The product of two integer symbols.
     Times(u64, u64),
+    /// An integer symbol and 1.
+    OneMore(u64),
 }
 
 /// What is said of two sides.
@@ -67,9 +75,26 @@ fn length_of(alloc: Global, xs: Term) -> Result<Term, Memory> {
     Term::with_one(alloc, Head::Fixpoint(Kind::Integer, name), xs)
 }
 
+/// `cons(x, nil)`
+fn only(alloc: Global, x: Term) -> Result<Term, Memory> {
+    let rest = nil(alloc)?;
+    cons(alloc, x, rest)
+}
+
+/// `cons(1, xs)`
+fn behind_one(alloc: Global, xs: Term) -> Result<Term, Memory> {
+    cons(alloc, Term::of_number(alloc, 1), xs)
+}
+
+/// `cons(1, cons(2, nil))`
+fn one_and_two(alloc: Global) -> Result<Term, Memory> {
+    let rest = only(alloc, Term::of_number(alloc, 2))?;
+    behind_one(alloc, rest)
+}
+
 /// `length(cons(1, xs))`
 fn length_behind_one(alloc: Global, xs: Term) -> Result<Term, Memory> {
-    let whole = cons(alloc, Term::of_number(alloc, 1), xs)?;
+    let whole = behind_one(alloc, xs)?;
     length_of(alloc, whole)
 }
 
@@ -81,6 +106,9 @@ fn term(alloc: Global, side: Side) -> Result<Term, Memory> {
         Side::List(xs) => Ok(list(alloc, xs)),
         Side::Nil => nil(alloc),
         Side::Cons(x, xs) => cons(alloc, integer(alloc, x), list(alloc, xs)),
+        Side::Only(x) => only(alloc, integer(alloc, x)),
+        Side::BehindOne(xs) => behind_one(alloc, list(alloc, xs)),
+        Side::OneAndTwo => one_and_two(alloc),
         Side::Length(xs) => length_of(alloc, list(alloc, xs)),
         Side::LengthBehindOne(xs) => length_behind_one(alloc, list(alloc, xs)),
         Side::Times(x, y) => Term::with_two(
@@ -88,6 +116,12 @@ fn term(alloc: Global, side: Side) -> Result<Term, Memory> {
             Head::Arithmetic(Operator::Multiply),
             integer(alloc, x),
             integer(alloc, y),
+        ),
+        Side::OneMore(x) => Term::with_two(
+            alloc,
+            Head::Plus,
+            integer(alloc, x),
+            Term::of_number(alloc, 1),
         ),
     }
 }

@@ -1,10 +1,11 @@
 //! What is proved of lists and integers, and what is not.
 
 use crate::asked::answer;
+use crate::explained::{Question, outcome_of, wanted};
 use crate::lists::{Relation, Side};
 use std::test::Fail;
 
-/// Each row has facts, a goal, and whether the goal is proved.
+/// Each row has facts, a goal, and whether the goal is proved; where it is, a refutation is handed over.
 #[test]
 fn questions_are_answered(rt: HostRuntime) -> Result<(), Fail> {
     let x = Side::Integer(0);
@@ -55,6 +56,8 @@ fn questions_are_answered(rt: HostRuntime) -> Result<(), Fail> {
     ];
     for (row, (facts, goal, proved)) in cases.into_iter().enumerate() {
         assert_eq!(rt; answer(rt.alloc(), facts, goal)?, proved, "row {row}");
+        let asked = Question { facts, goal };
+        assert_eq!(rt; outcome_of(rt.alloc(), asked)?, wanted(proved), "row {row}");
     }
     Ok(())
 }
