@@ -7,6 +7,8 @@
 mod bare;
 mod examples;
 mod laws;
+#[cfg(test)]
+mod tests;
 mod truth;
 
 pub use examples::truths_in_examples;
