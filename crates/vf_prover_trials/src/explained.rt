@@ -154,6 +154,7 @@ pub(crate) fn outcome_of(alloc: Global, asked: Question) -> Result<Outcome, NoAn
 }
 
 /// What comes of questions that one explainer is asked in turn; the facts of each hang on the root.
+#[tactic(auto, using(vf_asking::proofs::Seeing::grown))]
 fn outcomes_behind(
     alloc: Global,
     definitions: &Definitions,

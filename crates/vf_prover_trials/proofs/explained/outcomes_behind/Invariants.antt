@@ -1,0 +1,9 @@
+use Rattle.std.proofs.Common.{◌<◌, length}
+use Rattle.vf_asking.specs.Journal.{HasNode}
+use Rattle.vf_prover_trials.proofs.explained.outcomes_behind.Given as goal
+
+abbrev pub invariant-loop-asked : goal.invariant-loop-asked
+invariant-loop-asked l = record {
+  begun : 0 < length l.explainer.journal.units;
+  there : HasNode l.explainer.journal l.root;
+}
