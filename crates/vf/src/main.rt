@@ -11,8 +11,8 @@ use std::alloc::Global;
 use std::process::ExitCode;
 use std::rt::{Env, Files};
 use std::{env, io};
+use vf_asking::Journal;
 use vf_base::{HostFiles, HostSink};
-use vf_term::Journal;
 use vf_tool::{Status, run_words};
 
 fn main(rt: HostRuntime) -> ExitCode {

@@ -14,11 +14,11 @@ use vf_asking::{
 };
 use vf_base::{Memory, Place, RuleFault, Sequence, Text};
 use vf_core::Operator;
-use vf_deciding::Prover;
 use vf_definitions::{
     Body, Case, Definitions, Fixpoint, definitions_entail, definitions_keep_values,
 };
 use vf_formula::{Head, Kind, Literal, Name, Term};
+use vf_prover::Prover;
 use vf_question::is_plain;
 use vf_trail::Node;
 use vf_unfold::Unfolder;

@@ -1,12 +1,11 @@
 -- Bodies, one step after another.
-use Rattle.std.proofs.Common.{◌≡◌, ◌∙◌, refl, sym, ap, subst, ℕ, ◌+◌, ◌<◌, List, [], ◌∷◌, drop, length, get_or, replicate, Option, Some, None, Bool, true, false, Result, Ok, Err, arith}
+use Rattle.std.proofs.Common.{◌≡◌, ◌∙◌, refl, sym, ap, subst, ℕ, ◌+◌, ◌<◌, List, [], ◌∷◌, drop, length, map, get_or, replicate, Option, Some, None, true, false, Result, Ok, Err, arith}
 use Rattle.std.specs.Prelude.{slice_set, slice_get}
 use Rattle.std.proofs.Math.Seq.{drop-length}
 use Rattle.vf_base.specs.declared.place.Place.{Place}
 use Rattle.vf_tree.specs.declared.unit.Function.{Function}
 use Rattle.vf_tree.specs.declared.unit.Core.{Core}
 use Rattle.vf_trail.specs.declared.node.Node.{Node}
-use Rattle.vf_trail.specs.Trail.{path_of}
 use Rattle.vf_trail.proofs.Paths.{path_root}
 use Rattle.vf_tree.specs.declared.unit.Expression.{Expression}
 use Rattle.vf_tree.specs.declared.unit.CoreStep.{CoreStep}
@@ -16,15 +15,16 @@ use Rattle.vf_base.specs.declared.refusal.RuleFault.{RuleFault}
 use Rattle.vf_base.specs.declared.refusal.RuleFault.TheVariants.{Refused}
 use Rattle.vf_base.specs.declared.rule.Rule.TheVariants as rules
 use Rattle.vf_tree.specs.declared.unit.Pure.{Pure}
-use Rattle.vf_term.specs.declared.literal.Literal.{Literal}
-use Rattle.vf_term.specs.declared.journal.Journal.{Journal}
-use Rattle.vf_term.specs.declared.literal.Literal.TheVariants.{False}
-use Rattle.vf_term.specs.Journal.{Seen, HasNode, path_at}
-use Rattle.vf_term.specs.Course.{Course, Follows, Blames, Reaches, refusal, asked, pushed}
-use Rattle.vf_term.proofs.Following.{reaches_here, reaches_try, reaches_step, reaches_end, reaches_blames, blames_try, blames_later, blames_refused, blames_memory, follows_done, follows_try}
-use Rattle.vf_term.proofs.Seeing.{grew_not, grew_on, grew_path, grew_node, grew_begun}
+use Rattle.vf_closure.specs.Literals.{Literal}
+use Rattle.vf_asking.specs.declared.journal.Journal.{Journal}
+use Rattle.vf_closure.specs.Literals.{False}
+use Rattle.vf_formula.specs.Literals.{shown_literal}
+use Rattle.vf_asking.specs.Journal.{Seen, HasNode, path_at, path_to}
+use Rattle.vf_asking.specs.Course.{Course, Follows, Blames, Reaches, refusal, asked, pushed}
+use Rattle.vf_asking.proofs.Following.{reaches_here, reaches_try, reaches_step, reaches_end, reaches_blames, blames_try, blames_later, blames_refused, blames_memory, follows_done, follows_try}
+use Rattle.vf_asking.proofs.Seeing.{grew_not, grew_on, grew_path, grew_node, grew_begun}
 use Rattle.vf_exec.specs.declared.sum.NumberTerm.{NumberTerm}
-use Rattle.vf_exec.specs.Main.{Locals, returns, required, postcondition_of, place_of, evaluates, leaves, runs, enters, precondition_of, checks_function, checks_main, checks}
+use Rattle.vf_exec.specs.Main.{Locals, returns, required, postcondition_of, place_of, evaluates, leaves, runs, enters, precondition_of, assumes, checks_function, checks_main, checks}
 use Rattle.vf_exec.proofs.Sums.{rest_of}
 use Rattle.vf_exec.proofs.Steps.{done_follows, done_later, done_refused}
 
@@ -100,16 +100,16 @@ module _ (f : Function) (core : Core) (path : List Literal) (s : Seen) where
   unfolding enters
   enters_unasked t fault b = blames_try (asked core.name path False) _ s t fault b
 
-  pub enters_runs : (here : List Literal) (unset : Locals) (items : List CoreStep) (t u : Seen) → here ≡ path → unset ≡ replicate f.locals None → items ≡ f.steps → Follows (asked core.name path False) s t (Ok false) → Follows (runs f.closing core.name core.contract.postcondition here unset items) t u (Ok tt) → Follows (enters f core path) s u (Ok tt)
+  pub enters_runs : (here : List Literal) (unset : Locals) (t u : Seen) → here ≡ path → unset ≡ replicate f.locals None → Follows (asked core.name path False) s t (Ok false) → Follows (runs f.closing core.name core.contract.postcondition here unset f.steps) t u (Ok tt) → Follows (enters f core path) s u (Ok tt)
   unfolding enters
-  enters_runs here unset items t u same is all p q =
-      let moved = subst (λ (x : List CoreStep). Follows (runs f.closing core.name core.contract.postcondition path (replicate f.locals None) x) t u (Ok tt)) all (subst (λ (x : Locals). Follows (runs f.closing core.name core.contract.postcondition path x items) t u (Ok tt)) is (subst (λ (x : List Literal). Follows (runs f.closing core.name core.contract.postcondition x unset items) t u (Ok tt)) same q)) in
+  enters_runs here unset t u same is p q =
+      let moved = subst (λ (x : Locals). Follows (runs f.closing core.name core.contract.postcondition path x f.steps) t u (Ok tt)) is (subst (λ (x : List Literal). Follows (runs f.closing core.name core.contract.postcondition x unset f.steps) t u (Ok tt)) same q) in
       follows_try (asked core.name path False) _ s t u false (Ok tt) p moved
 
-  pub enters_fails : (here : List Literal) (unset : Locals) (items : List CoreStep) (t u : Seen) (fault : RuleFault) → here ≡ path → unset ≡ replicate f.locals None → items ≡ f.steps → Follows (asked core.name path False) s t (Ok false) → Blames (runs f.closing core.name core.contract.postcondition here unset items) t u fault → Blames (enters f core path) s u fault
+  pub enters_fails : (here : List Literal) (unset : Locals) (t u : Seen) (fault : RuleFault) → here ≡ path → unset ≡ replicate f.locals None → Follows (asked core.name path False) s t (Ok false) → Blames (runs f.closing core.name core.contract.postcondition here unset f.steps) t u fault → Blames (enters f core path) s u fault
   unfolding enters
-  enters_fails here unset items t u fault same is all p q =
-      let moved = subst (λ (x : List CoreStep). Blames (runs f.closing core.name core.contract.postcondition path (replicate f.locals None) x) t u fault) all (subst (λ (x : Locals). Blames (runs f.closing core.name core.contract.postcondition path x items) t u fault) is (subst (λ (x : List Literal). Blames (runs f.closing core.name core.contract.postcondition x unset items) t u fault) same q)) in
+  enters_fails here unset t u fault same is p q =
+      let moved = subst (λ (x : Locals). Blames (runs f.closing core.name core.contract.postcondition path x f.steps) t u fault) is (subst (λ (x : List Literal). Blames (runs f.closing core.name core.contract.postcondition x unset f.steps) t u fault) same q) in
       blames_later (asked core.name path False) _ s t u false fault p moved
 
 pub ruleset entering = (enters_absurd, enters_unasked, enters_runs, enters_fails, blames_memory, grew_not, grew_on, grew_path, grew_node, grew_begun)
@@ -121,36 +121,55 @@ root_there j root e = omega arith
 
 pub root_path : (j : Journal) (root : Node) → root.number ≡ 0 → path_at j root ≡ []
 unfolding path_at
-root_path j root e = ap (path_of j.trail.facts) e ∙ path_root j.trail.facts
+root_path j root e = ap (λ (n : ℕ). path_to j.trail.facts n) e ∙ ap (λ ls. map shown_literal ls) (path_root j.trail.facts)
+
+-- a precondition that is this literal
+module _ (core : Core) (s : Seen) (pre : Literal) (is : pre ≡ precondition_of core.contract.precondition) where
+  -- it is asked for, and then hung on the root
+  abbrev had : Course (Result (Unit {0}) Refusal)
+  had = required rules.Contract core.name [] (precondition_of core.contract.precondition)
+
+  abbrev then : Course (Result (List Literal) Refusal)
+  then = pushed core.name [] (precondition_of core.contract.precondition)
+
+  pub assumes_unproved : (here : List Literal) (t : Seen) (fault : RuleFault) → here ≡ [] → Blames (required rules.Contract core.name here pre) s t fault → Blames (assumes core) s t fault
+  unfolding assumes
+  assumes_unproved here t fault none b =
+      let first = subst (λ (x : List Literal). Blames (required rules.Contract core.name x pre) s t fault) none b in
+      blames_try had (λ x. then) s t fault (subst (λ (l : Literal). Blames (required rules.Contract core.name [] l) s t fault) is first)
+
+  asks : (here : List Literal) (t : Seen) → here ≡ [] → Follows (required rules.Contract core.name here pre) s t (Ok tt) → Follows (required rules.Contract core.name [] (precondition_of core.contract.precondition)) s t (Ok tt)
+  asks here t none p = subst (λ (l : Literal). Follows (required rules.Contract core.name [] l) s t (Ok tt)) is (subst (λ (x : List Literal). Follows (required rules.Contract core.name x pre) s t (Ok tt)) none p)
+
+  pub assumes_full : (here there : List Literal) (t u : Seen) (fault : RuleFault) → here ≡ [] → there ≡ [] → Follows (required rules.Contract core.name here pre) s t (Ok tt) → Blames (pushed core.name there pre) t u fault → Blames (assumes core) s u fault
+  unfolding assumes
+  assumes_full here there t u fault none empty p b =
+      let second = subst (λ (x : List Literal). Blames (pushed core.name x pre) t u fault) empty b in
+      blames_later had (λ x. then) s t u tt fault (asks here t none p) (subst (λ (l : Literal). Blames (pushed core.name [] l) t u fault) is second)
+
+  pub assumes_all : (here there path : List Literal) (t u : Seen) → here ≡ [] → there ≡ [] → Follows (required rules.Contract core.name here pre) s t (Ok tt) → Follows (pushed core.name there pre) t u (Ok path) → Follows (assumes core) s u (Ok path)
+  unfolding assumes
+  assumes_all here there path t u none empty p q =
+      let second = subst (λ (x : List Literal). Follows (pushed core.name x pre) t u (Ok path)) empty q in
+      follows_try had (λ x. then) s t u tt (Ok path) (asks here t none p) (subst (λ (l : Literal). Follows (pushed core.name [] l) t u (Ok path)) is second)
+
+pub ruleset assuming = (assumes_unproved, assumes_full, assumes_all, root_there, root_path, grew_on, grew_begun)
 
 -- a function
-module _ (core : Core) (f : Function) (s : Seen) where
-  pub function_unproved : (here : List Literal) (t : Seen) (fault : RuleFault) → here ≡ [] → Blames (required rules.Contract core.name here (precondition_of core.contract.precondition)) s t fault → Blames (checks_function core f) s t fault
+module _ (core : Core) (f : Function) (s t : Seen) where
+  pub function_unassumed : (fault : RuleFault) → Blames (assumes core) s t fault → Blames (checks_function core f) s t fault
   unfolding checks_function
-  function_unproved here t fault none b = blames_try _ _ s t fault (subst (λ (x : List Literal). Blames (required rules.Contract core.name x (precondition_of core.contract.precondition)) s t fault) none b)
+  function_unassumed fault b = blames_try (assumes core) (enters f core) s t fault b
 
-  pub function_full : (here there : List Literal) (t u : Seen) (fault : RuleFault) → here ≡ [] → there ≡ [] → Follows (required rules.Contract core.name here (precondition_of core.contract.precondition)) s t (Ok tt) → Blames (pushed core.name there (precondition_of core.contract.precondition)) t u fault → Blames (checks_function core f) s u fault
+  pub function_fails : (path : List Literal) (u : Seen) (fault : RuleFault) → Follows (assumes core) s t (Ok path) → Blames (enters f core path) t u fault → Blames (checks_function core f) s u fault
   unfolding checks_function
-  function_full here there t u fault none empty p b =
-      let first = subst (λ (x : List Literal). Follows (required rules.Contract core.name x (precondition_of core.contract.precondition)) s t (Ok tt)) none p in
-      let second = subst (λ (x : List Literal). Blames (pushed core.name x (precondition_of core.contract.precondition)) t u fault) empty b in
-      blames_later _ _ s t u tt fault first (blames_try _ (enters f core) t u fault second)
+  function_fails path u fault p b = blames_later (assumes core) (enters f core) s t u path fault p b
 
-  pub function_fails : (here there path : List Literal) (t u v : Seen) (fault : RuleFault) → here ≡ [] → there ≡ [] → Follows (required rules.Contract core.name here (precondition_of core.contract.precondition)) s t (Ok tt) → Follows (pushed core.name there (precondition_of core.contract.precondition)) t u (Ok path) → Blames (enters f core path) u v fault → Blames (checks_function core f) s v fault
+  pub function_checks : (path : List Literal) (u : Seen) → Follows (assumes core) s t (Ok path) → Follows (enters f core path) t u (Ok tt) → Follows (checks_function core f) s u (Ok tt)
   unfolding checks_function
-  function_fails here there path t u v fault none empty p q b =
-      let first = subst (λ (x : List Literal). Follows (required rules.Contract core.name x (precondition_of core.contract.precondition)) s t (Ok tt)) none p in
-      let second = subst (λ (x : List Literal). Follows (pushed core.name x (precondition_of core.contract.precondition)) t u (Ok path)) empty q in
-      blames_later _ _ s t v tt fault first (blames_later _ (enters f core) t u v path fault second b)
+  function_checks path u p q = follows_try (assumes core) (enters f core) s t u path (Ok tt) p q
 
-  pub function_checks : (here there path : List Literal) (t u v : Seen) → here ≡ [] → there ≡ [] → Follows (required rules.Contract core.name here (precondition_of core.contract.precondition)) s t (Ok tt) → Follows (pushed core.name there (precondition_of core.contract.precondition)) t u (Ok path) → Follows (enters f core path) u v (Ok tt) → Follows (checks_function core f) s v (Ok tt)
-  unfolding checks_function
-  function_checks here there path t u v none empty p q r =
-      let first = subst (λ (x : List Literal). Follows (required rules.Contract core.name x (precondition_of core.contract.precondition)) s t (Ok tt)) none p in
-      let second = subst (λ (x : List Literal). Follows (pushed core.name x (precondition_of core.contract.precondition)) t u (Ok path)) empty q in
-      follows_try _ _ s t v tt (Ok tt) first (follows_try _ (enters f core) t u v path (Ok tt) second r)
-
-pub ruleset checking = (function_unproved, function_full, function_fails, function_checks, root_there, root_path, grew_on, grew_begun)
+pub ruleset checking = (function_unassumed, function_fails, function_checks, grew_on, grew_begun)
 
 -- a unit
 pub unit_checks : (core : Core) (f : Function) (s t : Seen) → slice_get core.plain.functions core.plain.main ≡ Some f → Follows (checks_function core f) s t (Ok tt) → Follows (checks core) s t (Ok tt)

@@ -1,3 +1,4 @@
 pub mod Bodies
+pub mod Comparing
 pub mod Steps
 pub mod Sums

@@ -1,12 +1,12 @@
 -- Steps that ask nothing, before steps that ask.
-use Rattle.std.proofs.Common.{◌≡◌, refl, sym, subst, ap, Result, Ok, Err}
+use Rattle.std.proofs.Common.{◌≡◌, refl, sym, Result, Ok, Err}
 use Rattle.vf_base.specs.declared.refusal.Refusal.{Refusal}
 use Rattle.vf_base.specs.declared.refusal.RuleFault.{RuleFault}
 use Rattle.vf_base.specs.declared.refusal.RuleFault.TheVariants.{Refused}
-use Rattle.vf_term.specs.Journal.{Seen}
-use Rattle.vf_term.specs.Course.{Course, done, try, Follows, Blames}
-use Rattle.vf_term.proofs.Following.{follows_done, follows_try, follows_fails, blames_try, blames_later, blames_memory, blames_refused, follows}
-use Rattle.vf_term.proofs.Seeing.{grew_not, grew_on, grew_path, grew_node, grew_begun}
+use Rattle.vf_asking.specs.Journal.{Seen}
+use Rattle.vf_asking.specs.Course.{Course, done, try, Follows, Blames}
+use Rattle.vf_asking.proofs.Following.{follows_done, follows_try, follows_fails, blames_try, blames_later, blames_memory, blames_refused, follows}
+use Rattle.vf_asking.proofs.Seeing.{grew_not, grew_on, grew_path, grew_node, grew_begun}
 
 -- a result that is there leads on
 pub done_follows : {A B : Type 0} (r : Result A Refusal) (f : A → Course (Result B Refusal)) (s t : Seen) (x : A) (y : Result B Refusal) → r ≡ Ok x → Follows (f x) s t y → Follows (try (done r) f) s t y

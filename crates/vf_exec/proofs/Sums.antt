@@ -5,15 +5,19 @@ use Rattle.vf_base.specs.declared.place.Place.{Place}
 use Rattle.vf_base.specs.declared.refusal.Refusal.{Refusal}
 use Rattle.vf_base.specs.declared.refusal.RuleFault.{RuleFault}
 use Rattle.vf_tree.specs.declared.unit.Link.{Link}
-use Rattle.vf_term.specs.declared.literal.Literal.{Literal}
-use Rattle.vf_term.specs.Journal.{Seen}
-use Rattle.vf_term.specs.Course.{Course, Follows, Blames, Reaches}
-use Rattle.vf_term.proofs.Following.{follows_try, blames_later, reaches_try, reaches_step, reaches_end, reaches_blames, reaches_here, follows_done, blames_try}
+use Rattle.vf_closure.specs.Literals.{Literal}
+use Rattle.vf_asking.specs.Journal.{Seen}
+use Rattle.vf_asking.specs.Course.{Course, Follows, Blames, Reaches}
+use Rattle.vf_asking.proofs.Following.{follows_try, blames_later, reaches_try, reaches_step, reaches_end, reaches_blames, reaches_here, follows_done, blames_try}
 use Rattle.vf_base.specs.declared.refusal.RuleFault.TheVariants.{Refused}
 use Rattle.vf_tree.specs.declared.unit.Expression.{Expression}
-use Rattle.vf_term.proofs.Seeing.{grew_not}
+use Rattle.vf_asking.proofs.Seeing.{grew_not, grew_path, grew_node, grew_begun, grew_on}
 use Rattle.vf_exec.specs.declared.sum.NumberTerm.{NumberTerm}
-use Rattle.vf_exec.specs.Main.{Locals, adds, adds_one, evaluates, fits, operand_value, sum_with}
+use Rattle.vf_base.specs.declared.int_type.IntType.TheVariants.{Int}
+use Rattle.vf_base.specs.declared.rule.Rule.TheVariants as rules
+use Rattle.vf_model.specs.Integers.{least, greatest}
+use Rattle.vf_exec.specs.Literals.{at_most_of}
+use Rattle.vf_exec.specs.Main.{Locals, adds, adds_one, evaluates, fits, operand_value, required, sum_with}
 use Rattle.vf_exec.proofs.Steps.{done_follows, done_later, done_refused}
 
 -- what is left from an index on
@@ -53,6 +57,28 @@ module _ (name : Place) (path : List Literal) (locals : Locals) (c : Course (Res
   adds_end z links i t all r =
       let none = subst (λ (ls : List Link). Reaches c s (adds name path locals z ls) t) (subst (λ (k : ℕ). drop k links ≡ []) all (drop-length links)) r in
       reaches_end c _ s t t (Ok z) none (follows_done (Ok z) (Ok z) t t refl refl)
+
+-- whether a sum fits is asked by its two literals
+module _ (place : Place) (path : List Literal) (w : NumberTerm) (s t : Seen) where
+  pub fits_both : (here : List Literal) (low high : Literal) (u : Seen) → here ≡ path → low ≡ at_most_of (least Int) w.number → high ≡ at_most_of w.number (greatest Int) → Follows (required rules.Range place path low) s t (Ok tt) → Follows (required rules.Range place here high) t u (Ok tt) → Follows (fits place path w) s u (Ok tt)
+  unfolding fits
+  fits_both here low high u same is_low is_high p q =
+      let first = subst (λ (l : Literal). Follows (required rules.Range place path l) s t (Ok tt)) is_low p in
+      let second = subst (λ (l : Literal). Follows (required rules.Range place path l) t u (Ok tt)) is_high (subst (λ (x : List Literal). Follows (required rules.Range place x high) t u (Ok tt)) same q) in
+      follows_try (required rules.Range place path (at_most_of (least Int) w.number)) _ s t u tt (Ok tt) first second
+
+  pub fits_fails : (low : Literal) (e : RuleFault) → low ≡ at_most_of (least Int) w.number → Blames (required rules.Range place path low) s t e → Blames (fits place path w) s t e
+  unfolding fits
+  fits_fails low e is_low b = blames_try (required rules.Range place path (at_most_of (least Int) w.number)) _ s t e (subst (λ (l : Literal). Blames (required rules.Range place path l) s t e) is_low b)
+
+  pub fits_fails_above : (here : List Literal) (low high : Literal) (u : Seen) (e : RuleFault) → here ≡ path → low ≡ at_most_of (least Int) w.number → high ≡ at_most_of w.number (greatest Int) → Follows (required rules.Range place path low) s t (Ok tt) → Blames (required rules.Range place here high) t u e → Blames (fits place path w) s u e
+  unfolding fits
+  fits_fails_above here low high u e same is_low is_high p b =
+      let first = subst (λ (l : Literal). Follows (required rules.Range place path l) s t (Ok tt)) is_low p in
+      let second = subst (λ (l : Literal). Blames (required rules.Range place path l) t u e) is_high (subst (λ (x : List Literal). Blames (required rules.Range place x high) t u e) same b) in
+      blames_later (required rules.Range place path (at_most_of (least Int) w.number)) _ s t u tt e first second
+
+pub ruleset fitting = (fits_both, fits_fails, fits_fails_above, grew_path, grew_node, grew_begun, grew_on)
 
 module _ (name : Place) (path : List Literal) (locals : Locals) (z : NumberTerm) (link : Link) (s t : Seen) where
   pub adds_one_fits : (w : NumberTerm) → sum_with (operand_value name locals link.operand) z link ≡ Ok w → Follows (fits link.place path w) s t (Ok tt) → Follows (adds_one name path locals z link) s t (Ok w)

@@ -1,2 +1,3 @@
+pub mod Literals
 pub mod Main
 pub mod Small

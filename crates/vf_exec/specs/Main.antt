@@ -1,6 +1,6 @@
 -- The written rules for a main of sums: which questions are asked, in which order, and what comes of each answer.
 -- They walk the body once, step by step, and keep for each local the term that it is equal to. In this form every term is a number.
-use Rattle.std.specs.Prelude.{ℕ, ℤ, pos, neg_ℤ, ◌^◌, ◌+ℤ◌, ◌-ℤ◌, Bool, true, ◌&&◌, int_le, if◌then◌else◌, cond, List, [], ◌∷◌, slice_get, slice_set, replicate, Option, Some, None, Result, Ok, Err}
+use Rattle.std.specs.Prelude.{ℤ, pos, neg_ℤ, ◌^◌, ◌+ℤ◌, ◌-ℤ◌, Bool, true, ◌&&◌, int_le, if◌then◌else◌, cond, List, [], ◌∷◌, slice_get, slice_set, replicate, Option, Some, None, Result, Ok, Err}
 use Rattle.vf_base.specs.declared.place.Place.{Place}
 use Rattle.vf_base.specs.declared.int_type.IntType.TheVariants.{Int}
 use Rattle.vf_base.specs.declared.rule.Rule.{Rule}
@@ -19,11 +19,11 @@ use Rattle.vf_tree.specs.declared.unit.Pure.TheVariants as parts
 use Rattle.vf_tree.specs.declared.unit.Function.{Function}
 use Rattle.vf_tree.specs.declared.unit.Core.{Core}
 use Rattle.vf_model.specs.Integers.{least, greatest}
-use Rattle.vf_term.specs.declared.literal.Literal.{Literal}
+use Rattle.vf_closure.specs.Literals.{Literal}
 use Rattle.vf_exec.specs.declared.sum.NumberTerm.{NumberTerm}
-use Rattle.vf_term.specs.declared.literal.Literal.TheVariants.{False}
-use Rattle.vf_term.specs.Literals.{at_most_of, equal_of, truth_of}
-use Rattle.vf_term.specs.Course.{Course, done, after, try, asked, pushed, refusal}
+use Rattle.vf_closure.specs.Literals.{False}
+use Rattle.vf_exec.specs.Literals.{at_most_of, equal_of, truth_of}
+use Rattle.vf_asking.specs.Course.{Course, done, try, asked, pushed, refusal}
 
 -- the locals' terms, each a number, and None where the local is unset
 abbrev pub Locals : Type 0
@@ -113,11 +113,13 @@ runs closing name post path locals (steps.Return e ∷ more) = leaves name post 
 unfoldable pub enters : Function → Core → List Literal → Course (Result (Unit {0}) Refusal)
 enters f core path = try (asked core.name path False) (λ is_absurd. cond is_absurd (done (Ok tt)) (runs f.closing core.name core.contract.postcondition path (replicate f.locals None) f.steps))
 
--- A function: main's precondition is had from nothing (rule 28 at its name), and then its body, which may assume it
+-- main's precondition is had from nothing (rule 28 at its name), and is then assumed
+unfoldable pub assumes : Core → Course (Result (List Literal) Refusal)
+assumes core = try (required rules.Contract core.name [] (precondition_of core.contract.precondition)) (λ _. pushed core.name [] (precondition_of core.contract.precondition))
+
+-- A function: its precondition, and then its body, which may assume it
 unfoldable pub checks_function : Core → Function → Course (Result (Unit {0}) Refusal)
-checks_function core f =
-    try (required rules.Contract core.name [] (precondition_of core.contract.precondition)) (λ _.
-    try (pushed core.name [] (precondition_of core.contract.precondition)) (enters f core))
+checks_function core f = try (assumes core) (enters f core)
 
 -- the main that a unit has, if it has one
 unfoldable pub checks_main : Core → Option Function → Course (Result (Unit {0}) Refusal)

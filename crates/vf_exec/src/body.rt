@@ -1,16 +1,19 @@
 //! A body, from its first step on.
 
-ghost use Rattle.std.specs.Prelude.{◌≡◌, ◌<◌, IfOk, length, replicate, None, slice_get, slice_set, Some};
-ghost use Rattle.vf_term.specs.Course.{Says};
-ghost use Rattle.vf_term.specs.Journal.{Grew, HasNode, path_at, seen};
-ghost use Rattle.vf_term.specs.Literals.{IsWellSorted};
-ghost use Rattle.vf_exec.specs.Main.{postcondition_of, precondition_of, place_of, returns, leaves, runs, enters, checks_function, checks};
+ghost use Rattle.std.specs.Prelude.{◌≡◌, ◌<◌, Err, IfOk, MatchResult, Ok, length, replicate, None, slice_get, slice_set, Some};
+ghost use Rattle.vf_asking.specs.Course.{Says};
+ghost use Rattle.vf_asking.specs.Journal.{Grew, HasNode, path_at, seen};
+ghost use Rattle.vf_asking.specs.Plain.{CanBeAsked};
+ghost use Rattle.vf_formula.specs.Literals.{shown_literal};
+ghost use Rattle.vf_exec.specs.Main.{postcondition_of, precondition_of, place_of, returns, leaves, runs, enters, assumes, checks_function, checks};
 ghost use Rattle.vf_exec.specs.Small.{AreSmall, IsSmallTerm};
 
+use crate::literals::{equal, truth};
 use crate::sum::{Locals, NumberTerm, evaluate, folded, refusal, require};
 use std::alloc::Global;
+use vf_asking::{Asker, holds, note};
 use vf_base::{Memory, Place, Refusal, Rule, RuleFault, Sequence};
-use vf_term::{Asker, Literal, holds, note};
+use vf_formula::Literal;
 use vf_trail::Node;
 use vf_tree::{Core, CoreStep, Expression, Function, Pure};
 
@@ -25,27 +28,27 @@ fn place_of(part: Pure) -> Place
 }
 
 /// What a pure part of a postcondition says of the returned term.
-fn postcondition_of(part: Pure, term: NumberTerm) -> Result<Literal, Refusal>
+fn postcondition_of(alloc: Global, part: Pure, term: NumberTerm) -> Result<Literal, Refusal>
     requires { IsSmallTerm term }
-    ensures value { result ≡ postcondition_of part term }
-    ensures sorted { IfOk result IsWellSorted }
+    ensures value { MatchResult result (λ l. postcondition_of part term ≡ Ok (shown_literal l)) (λ e. postcondition_of part term ≡ Err e) }
+    ensures plain { IfOk result (λ l. CanBeAsked (shown_literal l)) }
 {
     match part {
-        Pure::True { place: _ } => Ok(Literal::truth(true)),
+        Pure::True { place: _ } => Ok(truth(alloc, true)),
         Pure::ResultIs { number, place } => match folded(place, number) {
-            Ok(wanted) => Ok(Literal::equal(term.number, wanted.number)),
+            Ok(wanted) => Ok(equal(alloc, term.number, wanted.number)),
             Err(_) => Err(refusal(Rule::Pure, place)),
         },
     }
 }
 
 /// What a pure part of a precondition says.
-fn precondition_of(part: Pure) -> Literal
-    ensures value { result ≡ precondition_of part }
-    ensures sorted { IsWellSorted result }
+fn precondition_of(alloc: Global, part: Pure) -> Literal
+    ensures value { shown_literal result ≡ precondition_of part }
+    ensures plain { CanBeAsked (shown_literal result) }
 {
     match part {
-        Pure::True { place: _ } => Literal::truth(true),
+        Pure::True { place: _ } => truth(alloc, true),
         Pure::ResultIs {
             number: _,
             place: _,
@@ -56,6 +59,7 @@ fn precondition_of(part: Pure) -> Literal
 /// Asks for the postcondition at the returned term.
 #[tactic(auto, using(crate::proofs::Bodies::returning))]
 fn check_return<A: Asker>(
+    alloc: Global,
     asker: &mut A,
     at: Node,
     part: Pure,
@@ -68,14 +72,15 @@ fn check_return<A: Asker>(
     ensures grew { Grew (A.journal asker.old) (A.journal asker.new) }
     ensures origin { A.origin asker.new ≡ A.origin asker.old }
 {
-    let goal = postcondition_of(part, term)?;
+    let goal = postcondition_of(alloc, part, term)?;
     require(asker, at, &goal, Rule::Pure, place_of(part))?;
     Ok(())
 }
 
 /// Evaluates the returned sum, and asks for the postcondition.
-#[tactic(auto, using(vf_term::proofs::Following::follows, vf_term::proofs::Seeing::grew_path, vf_term::proofs::Seeing::grew_node, vf_term::proofs::Seeing::grew_begun, vf_term::proofs::Seeing::grew_on), unfolding(crate::specs::Main::leaves))]
+#[tactic(auto, using(vf_asking::proofs::Following::follows, vf_asking::proofs::Seeing::grew_path, vf_asking::proofs::Seeing::grew_node, vf_asking::proofs::Seeing::grew_begun, vf_asking::proofs::Seeing::grew_on), unfolding(crate::specs::Main::leaves))]
 fn check_leave<A: Asker>(
+    alloc: Global,
     asker: &mut A,
     at: Node,
     name: Place,
@@ -90,8 +95,8 @@ fn check_leave<A: Asker>(
     ensures grew { Grew (A.journal asker.old) (A.journal asker.new) }
     ensures origin { A.origin asker.new ≡ A.origin asker.old }
 {
-    let term = evaluate(asker, at, name, locals, value)?;
-    check_return(asker, at, part, term)?;
+    let term = evaluate(alloc, asker, at, name, locals, value)?;
+    check_return(alloc, asker, at, part, term)?;
     Ok(())
 }
 
@@ -122,22 +127,22 @@ fn unset_locals(alloc: Global, count: u32) -> Result<Locals, Memory>
 
 /// Walks the steps of a body.
 fn check_steps<A: Asker>(
+    alloc: Global,
     asker: &mut A,
     at: Node,
-    name: Place,
-    part: Pure,
-    closing: Place,
-    steps: &[CoreStep],
+    core: &Core,
+    function: &Function,
     unset: Locals,
 ) -> Result<(), RuleFault>
     requires begun { 0 < length (A.journal asker.old).units }
     requires there { HasNode (A.journal asker.old) at }
     requires locals { AreSmall unset }
-    ensures says { Says (runs closing name part (path_at (A.journal asker.old) at) unset steps.now) (λ _. tt) (seen (A.journal asker.old)) (seen (A.journal asker.new)) result }
+    ensures says { Says (runs function.now.closing core.now.name core.now.contract.postcondition (path_at (A.journal asker.old) at) unset function.now.steps) (λ _. tt) (seen (A.journal asker.old)) (seen (A.journal asker.new)) result }
     ensures grew { Grew (A.journal asker.old) (A.journal asker.new) }
     ensures origin { A.origin asker.new ≡ A.origin asker.old }
 {
     let mut locals = unset;
+    let steps = function.steps.as_slice();
     for step in steps {
         match step {
             CoreStep::Set {
@@ -145,21 +150,29 @@ fn check_steps<A: Asker>(
                 value,
                 next: _,
             } => {
-                let term = match evaluate(asker, at, name, &locals, value) {
+                let term = match evaluate(alloc, asker, at, core.name, &locals, value) {
                     Ok(term) => term,
                     Err(fault) => return Err(fault),
                 };
                 set_local(&mut locals, *local, term);
             }
             CoreStep::Return { value } => {
-                match check_leave(asker, at, name, part, &locals, value) {
+                match check_leave(
+                    alloc,
+                    asker,
+                    at,
+                    core.name,
+                    core.contract.postcondition,
+                    &locals,
+                    value,
+                ) {
                     Ok(()) => return Ok(()),
                     Err(fault) => return Err(fault),
                 }
             }
         }
     }
-    Err(RuleFault::Refused(refusal(Rule::NoReturn, closing)))
+    Err(RuleFault::Refused(refusal(Rule::NoReturn, function.closing)))
 }
 
 /// Walks a body whose precondition is assumed at a node.
@@ -182,17 +195,48 @@ fn check_entered<A: Asker>(
         return Ok(());
     }
     let unset = unset_locals(alloc, function.locals)?;
-    let steps = function.steps.as_slice();
-    check_steps(
-        asker,
-        at,
-        core.name,
-        core.contract.postcondition,
-        function.closing,
-        steps,
-        unset,
-    )?;
+    check_steps(alloc, asker, at, core, function, unset)?;
     Ok(())
+}
+
+/// Asks for a precondition from nothing, and assumes it at a node.
+#[tactic(auto, using(crate::proofs::Bodies::assuming))]
+fn assume<A: Asker>(
+    asker: &mut A,
+    root: Node,
+    core: &Core,
+    precondition: &Literal,
+) -> Result<Node, RuleFault>
+    requires begun { 0 < length (A.journal asker.old).units }
+    requires root { root.number ≡ 0 }
+    requires is { shown_literal precondition.now ≡ precondition_of core.now.contract.precondition }
+    requires plain { CanBeAsked (shown_literal precondition.now) }
+    ensures says { Says (assumes core.now) (λ node. path_at (A.journal asker.new) node) (seen (A.journal asker.old)) (seen (A.journal asker.new)) result }
+    ensures node { IfOk result (λ node. HasNode (A.journal asker.new) node) }
+    ensures grew { Grew (A.journal asker.old) (A.journal asker.new) }
+    ensures origin { A.origin asker.new ≡ A.origin asker.old }
+{
+    require(asker, root, precondition, Rule::Contract, core.name)?;
+    let at = note(asker, root, precondition, core.name)?;
+    Ok(at)
+}
+
+/// Asks for the precondition of main from nothing, and assumes it at a node.
+fn assume_precondition<A: Asker>(
+    alloc: Global,
+    asker: &mut A,
+    root: Node,
+    core: &Core,
+) -> Result<Node, RuleFault>
+    requires begun { 0 < length (A.journal asker.old).units }
+    requires root { root.number ≡ 0 }
+    ensures says { Says (assumes core.now) (λ node. path_at (A.journal asker.new) node) (seen (A.journal asker.old)) (seen (A.journal asker.new)) result }
+    ensures node { IfOk result (λ node. HasNode (A.journal asker.new) node) }
+    ensures grew { Grew (A.journal asker.old) (A.journal asker.new) }
+    ensures origin { A.origin asker.new ≡ A.origin asker.old }
+{
+    let precondition = precondition_of(alloc, core.contract.precondition);
+    assume(asker, root, core, &precondition)
 }
 
 /// Checks a function: its precondition from nothing, and then its body.
@@ -210,9 +254,7 @@ fn check_function<A: Asker>(
     ensures grew { Grew (A.journal asker.old) (A.journal asker.new) }
     ensures origin { A.origin asker.new ≡ A.origin asker.old }
 {
-    let precondition = precondition_of(core.contract.precondition);
-    require(asker, root, &precondition, Rule::Contract, core.name)?;
-    let at = note(asker, root, &precondition, core.name)?;
+    let at = assume_precondition(alloc, asker, root, core)?;
     check_entered(alloc, asker, at, core, function)?;
     Ok(())
 }

@@ -6,6 +6,7 @@
 #![tactic(auto)]
 
 mod body;
+mod literals;
 mod sum;
 
 pub use body::check_main;

@@ -1,15 +1,21 @@
 //! Sums: the terms of operands and partial sums, and the questions whether they fit.
 
 ghost use Rattle.std.specs.Prelude.{◌≡◌, ◌<◌, ℕ, ℤ, Option, List, All, IfOk, length};
-ghost use Rattle.vf_term.specs.Course.{Says, refusal};
-ghost use Rattle.vf_term.specs.Journal.{Grew, HasNode, path_at, seen};
-ghost use Rattle.vf_term.specs.Literals.{IsWellSorted};
-ghost use Rattle.vf_term.specs.Numbers.{IsSmall};
+ghost use Rattle.vf_asking.specs.Course.{Says, refusal};
+ghost use Rattle.vf_asking.specs.Journal.{Grew, HasNode, path_at, seen};
+ghost use Rattle.vf_asking.specs.Plain.{CanBeAsked};
+ghost use Rattle.vf_formula.specs.Literals.{shown_literal};
+ghost use Rattle.vf_base.specs.declared.int_type.IntType.TheVariants.{Int};
+ghost use Rattle.vf_model.specs.Integers.{least, greatest};
+ghost use Rattle.vf_exec.specs.Literals.{at_most_of};
 ghost use Rattle.vf_exec.specs.Main.{required, fits, folded, local_value, operand_value, combined, sum_with, adds_one, adds, evaluates};
-ghost use Rattle.vf_exec.specs.Small.{AreSmall, IsSmallTerm};
+ghost use Rattle.vf_exec.specs.Small.{AreSmall, IsSmall, IsSmallTerm};
 
+use crate::literals::at_most;
+use std::alloc::Global;
+use vf_asking::{Asker, holds};
 use vf_base::{Place, Refusal, Rule, RuleFault, Sequence, Shown};
-use vf_term::{Asker, Literal, holds};
+use vf_formula::Literal;
 use vf_trail::Node;
 use vf_tree::{Expression, Link, Operand, Operator};
 
@@ -37,7 +43,7 @@ pub fn refusal(rule: Rule, place: Place) -> Refusal
 }
 
 /// Asks for a goal that has to be proved; else the rule refuses at the place.
-#[tactic(auto, using(vf_term::proofs::Following::follows), unfolding(crate::specs::Main::required))]
+#[tactic(auto, using(vf_asking::proofs::Following::follows), unfolding(crate::specs::Main::required))]
 pub fn require<A: Asker>(
     asker: &mut A,
     at: Node,
@@ -47,8 +53,8 @@ pub fn require<A: Asker>(
 ) -> Result<(), RuleFault>
     requires begun { 0 < length (A.journal asker.old).units }
     requires there { HasNode (A.journal asker.old) at }
-    requires sorted { IsWellSorted goal.now }
-    ensures says { Says (required rule place (path_at (A.journal asker.old) at) goal.now) (λ _. tt) (seen (A.journal asker.old)) (seen (A.journal asker.new)) result }
+    requires plain { CanBeAsked (shown_literal goal.now) }
+    ensures says { Says (required rule place (path_at (A.journal asker.old) at) (shown_literal goal.now)) (λ _. tt) (seen (A.journal asker.old)) (seen (A.journal asker.new)) result }
     ensures grew { Grew (A.journal asker.old) (A.journal asker.new) }
     ensures origin { A.origin asker.new ≡ A.origin asker.old }
 {
@@ -99,9 +105,28 @@ fn combined(operator: Operator, left: i128, right: i128) -> i128
     }
 }
 
+/// That a sum is at least the least number of `int`.
+fn at_least_least(alloc: Global, term: NumberTerm) -> Literal
+    requires { IsSmallTerm term }
+    ensures value { shown_literal result ≡ at_most_of (least Int) term.number }
+    ensures plain { CanBeAsked (shown_literal result) }
+{
+    at_most(alloc, -2_147_483_648, term.number)
+}
+
+/// That a sum is at most the greatest number of `int`.
+fn at_most_greatest(alloc: Global, term: NumberTerm) -> Literal
+    requires { IsSmallTerm term }
+    ensures value { shown_literal result ≡ at_most_of term.number (greatest Int) }
+    ensures plain { CanBeAsked (shown_literal result) }
+{
+    at_most(alloc, term.number, 2_147_483_647)
+}
+
 /// Asks whether a sum fits `int`: at least the least number, then at most the greatest.
-#[tactic(auto, using(vf_term::proofs::Following::follows, vf_term::proofs::Seeing::grew_path, vf_term::proofs::Seeing::grew_node, vf_term::proofs::Seeing::grew_begun, vf_term::proofs::Seeing::grew_on), unfolding(crate::specs::Main::fits))]
+#[tactic(auto, using(crate::proofs::Sums::fitting))]
 fn require_fit<A: Asker>(
+    alloc: Global,
     asker: &mut A,
     at: Node,
     term: NumberTerm,
@@ -114,8 +139,8 @@ fn require_fit<A: Asker>(
     ensures grew { Grew (A.journal asker.old) (A.journal asker.new) }
     ensures origin { A.origin asker.new ≡ A.origin asker.old }
 {
-    let low = Literal::at_most(-2_147_483_648, term.number);
-    let high = Literal::at_most(term.number, 2_147_483_647);
+    let low = at_least_least(alloc, term);
+    let high = at_most_greatest(alloc, term);
     require(asker, at, &low, Rule::Range, place)?;
     require(asker, at, &high, Rule::Range, place)?;
     Ok(())
@@ -145,6 +170,7 @@ fn sum_with(
 /// A sum with one more operand on its right, and whether it fits.
 #[tactic(auto, using(crate::proofs::Sums::adding_one))]
 fn add_link<A: Asker>(
+    alloc: Global,
     asker: &mut A,
     at: Node,
     name: Place,
@@ -162,13 +188,14 @@ fn add_link<A: Asker>(
     ensures origin { A.origin asker.new ≡ A.origin asker.old }
 {
     let sum = sum_with(name, locals, term, link)?;
-    require_fit(asker, at, sum, link.place)?;
+    require_fit(alloc, asker, at, sum, link.place)?;
     Ok(sum)
 }
 
 /// The term of a sum, its operands from left to right.
 #[tactic(auto, using(crate::proofs::Sums::evaluating))]
 pub fn evaluate<A: Asker>(
+    alloc: Global,
     asker: &mut A,
     at: Node,
     name: Place,
@@ -184,12 +211,21 @@ pub fn evaluate<A: Asker>(
     ensures origin { A.origin asker.new ≡ A.origin asker.old }
 {
     let first = operand_value(name, locals, expression.first)?;
-    let sum = add_links(asker, at, name, locals, first, expression.rest.as_slice())?;
+    let sum = add_links(
+        alloc,
+        asker,
+        at,
+        name,
+        locals,
+        first,
+        expression.rest.as_slice(),
+    )?;
     Ok(sum)
 }
 
 /// A sum with more operands on its right.
 fn add_links<A: Asker>(
+    alloc: Global,
     asker: &mut A,
     at: Node,
     name: Place,
@@ -208,7 +244,7 @@ fn add_links<A: Asker>(
 {
     let mut sum = first;
     for link in links {
-        sum = match add_link(asker, at, name, locals, sum, *link) {
+        sum = match add_link(alloc, asker, at, name, locals, sum, *link) {
             Ok(sum) => sum,
             Err(fault) => return Err(fault),
         };

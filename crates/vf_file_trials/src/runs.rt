@@ -1,7 +1,7 @@
 use std::alloc::{AllocError, Global};
 use std::test::Fail;
+use vf_asking::Journal;
 use vf_base::{MemoryFiles, MemorySink, NumberList};
-use vf_term::Journal;
 use vf_tool::{Status, run_words};
 
 const FIVE: &str = "[0,0,0,0,0]";

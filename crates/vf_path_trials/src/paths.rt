@@ -7,9 +7,9 @@ use std::alloc::Global;
 use std::test::Fail;
 use vf_asking::{Asker, Journal, can_be_asked, can_be_fact, holds, note};
 use vf_base::{Place, RuleFault};
-use vf_deciding::Prover;
 use vf_definitions::Definitions;
 use vf_formula::{Head, Kind, Literal, Name, Term};
+use vf_prover::Prover;
 use vf_trail::Node;
 
 /// Where the facts and the goals stand.

@@ -1,4 +1,5 @@
-pub mod Counted
-pub mod Refuted
-pub mod Walk
+pub mod Walking
+pub mod Answering
 pub mod Staying
+pub mod Stepping
+pub mod Handing

@@ -1,3 +1,3 @@
-pub mod Decision
 pub mod Held
-pub mod Laws
+pub mod Along
+pub mod Explained

@@ -1,34 +1,46 @@
 //! The prover.
 
 ghost use Rattle.std.specs.Prelude.{◌≡◌, length};
-ghost use Rattle.vf_term.specs.Journal.{seen};
-ghost use Rattle.vf_term.specs.Right.{AreRightFrom};
+ghost use Rattle.vf_asking.specs.Journal.{seen};
+ghost use Rattle.vf_asking.specs.Right.{AreRightFrom};
 
-use crate::decide::decide;
+use crate::deciding::decide;
 use std::marker::Model;
-use vf_term::{Answer, AskFault, Asker, Definitions, Journal, Literal};
+use vf_asking::{Answer, AskFault, Asker, Journal};
+use vf_definitions::Definitions;
+use vf_formula::Literal;
 use vf_trail::Node;
+use vf_unfolding::Path;
 
-/// An asker that owns its journal and gives right answers. Contracts see it as its journal and the
-/// number of entries that the journal held when the prover was made.
-#[derive(Debug, Drop)]
+/// An asker that owns its journal and gives right answers. It keeps a path, at most one, that stands where it was
+/// asked last, and goes from there to where it is asked next. Contracts see it as its journal and the number of
+/// entries that the journal held when the prover was made.
+#[derive(Drop)]
 pub struct Prover {
     journal: Journal,
     origin: usize,
+    paths: Vec<Path>,
+    nodes: Vec<Node>,
 }
 
 impl Model for Prover {
     ghost use Rattle.vf_prover.specs.Held.{Held};
+    ghost use Rattle.std.specs.Coded.{codes};
+    ghost use Rattle.vf_asking.specs.contracts.journal.Journal as journal_row;
 
     ghost Value = { Held };
 
+    ghost coded = { Prim.hlevel (codes, journal_row.the_row.coded) };
+
     ghost use Rattle.std.specs.Prelude.{◌≤◌, length};
-    ghost use Rattle.vf_term.specs.Journal.{seen};
-    ghost use Rattle.vf_term.specs.Right.{AreRightFrom};
+    ghost use Rattle.vf_asking.specs.Journal.{seen};
+    ghost use Rattle.vf_asking.specs.Right.{AreRightFrom};
 
     ghost view = { λ p. record { journal = p.journal; origin = p.origin } };
 
-    ghost invariant = { λ p. AreRightFrom p.origin (seen p.journal) × (p.origin ≤ length p.journal.entries) };
+    ghost use Rattle.vf_prover.specs.Along.{IsStanding};
+
+    ghost invariant = { λ p. AreRightFrom p.origin (seen p.journal) × (p.origin ≤ length p.journal.entries) × IsStanding p.journal.units p.journal.trail.facts p.paths.items p.nodes.items };
 }
 
 impl Prover {
@@ -38,7 +50,14 @@ impl Prover {
         ensures origin { result.origin ≡ length journal.entries }
     {
         let origin = journal.entries.len();
-        Prover { journal, origin }
+        let paths = Vec::new(journal.trail.allocator());
+        let nodes = Vec::new(journal.trail.allocator());
+        Prover {
+            journal,
+            origin,
+            paths,
+            nodes,
+        }
     }
 
     /// Hands the journal back, with right answers in each entry that it gained.
@@ -55,8 +74,13 @@ impl Asker for Prover {
 
     ghost origin = { λ p. p.origin };
 
+    // it hands over no refutation
+    ghost handed = { λ p. 0 };
+
     fn begin(&mut self, defs: &Definitions) -> Result<Node, AskFault> {
         self.journal.begin(defs)?;
+        self.paths.clear();
+        self.nodes.clear();
         Ok(Node::ROOT)
     }
 
@@ -66,11 +90,8 @@ impl Asker for Prover {
     }
 
     fn ask(&mut self, at: Node, goal: &Literal) -> Result<Answer, AskFault> {
-        let answer = decide(&self.journal.trail, at, goal)?;
+        let answer = decide(&self.journal, &mut self.paths, &mut self.nodes, at, goal)?;
         self.journal.keep(at, goal, answer)?;
         Ok(answer)
     }
 }
-
-#[cfg(test)]
-mod tests;

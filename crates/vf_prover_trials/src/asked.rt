@@ -7,9 +7,9 @@ use crate::lists::{Relation, definitions, literals};
 use std::alloc::{AllocFailed, Global};
 use vf_asking::{Asker, Journal, can_be_asked, can_be_fact, holds, note};
 use vf_base::{Memory, Place, RuleFault};
-use vf_deciding::Prover;
 use vf_definitions::Definitions;
 use vf_formula::Literal;
+use vf_prover::Prover;
 use vf_trail::Node;
 
 /// Where the facts and the goals stand.

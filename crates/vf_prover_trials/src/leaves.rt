@@ -9,8 +9,8 @@ use std::alloc::Global;
 use std::test::Fail;
 use vf_asking::{Asker, Journal};
 use vf_base::{Memory, RuleFault};
-use vf_deciding::Prover;
 use vf_definitions::Definitions;
+use vf_prover::Prover;
 use vf_trail::Node;
 
 /// Facts, facts that hang on them at each of two leaves, and a goal.

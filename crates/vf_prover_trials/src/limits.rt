@@ -9,9 +9,9 @@ use std::alloc::Global;
 use std::test::Fail;
 use vf_asking::{Answer, AskFault, Asker, Journal, can_be_asked};
 use vf_base::{Memory, RuleFault};
-use vf_deciding::Prover;
 use vf_definitions::Definitions;
 use vf_formula::Literal;
+use vf_prover::Prover;
 use vf_question::MOST_TERMS;
 use vf_trail::Node;
 

@@ -5,6 +5,7 @@ pub mod Shares
 pub mod Linking
 mod Sums
 mod Bodies
+mod Deciding
 mod Steps
 mod Keeping
 pub mod Accepted

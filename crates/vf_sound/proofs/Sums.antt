@@ -23,10 +23,15 @@ use Rattle.vf_model.specs.Values.{Value, number_of}
 use Rattle.vf_model.specs.Values as values
 use Rattle.vf_model.specs.Integers.{least, greatest, in_range}
 use Rattle.vf_model.specs.Evaluation.{Gives, Fails, and_then, local_read, ranged, computed, evaluate}
-use Rattle.vf_term.specs.declared.literal.Literal.{Literal}
-use Rattle.vf_term.specs.Literals.{at_most_of}
-use Rattle.vf_term.specs.Right.{Valuation, Holds, Meets}
-use Rattle.vf_term.specs.Course.{refusal}
+use Rattle.vf_closure.specs.Literals.{Literal}
+use Rattle.vf_meaning.specs.Valuations.{Valuation}
+use Rattle.vf_meaning.specs.GhostValues.{Interpretation}
+use Rattle.vf_tree.specs.Core.{LessEqual}
+use Rattle.vf_closure.specs.Terms.{number}
+use Rattle.vf_closure.specs.Literals.{Holds, Meets}
+use Rattle.vf_normal.proofs.Compared.{comparisons_meant}
+use Rattle.vf_exec.specs.Literals.{at_most_of}
+use Rattle.vf_asking.specs.Course.{refusal}
 use Rattle.vf_exec.specs.declared.sum.NumberTerm.{NumberTerm}
 use Rattle.vf_exec.specs.Main.{Locals, required, fits, is_folded, folded, local_value, operand_value, combined, sum_with, adds_one, adds, evaluates}
 use Rattle.vf_sound.specs.Allowed.{Allows}
@@ -81,20 +86,23 @@ added name locals z w link (Ok right) is e = record { right = right; operand = i
 added name locals z w link (Err x) is e = absurd (err_not_ok e)
 
 -- a comparison of numbers says what it seems to
-at_most : (a b : ℤ) (v : Valuation) → Holds (at_most_of a b) v → a ≤ℤ b
-at_most a b v h = omega (arith, ints)
+from_at_most : (a b : ℤ) → int_le a b ≡ true → a ≤ℤ b
+from_at_most a b h = grind (arith, ints)
+
+at_most : (i : Interpretation) (v : Valuation) (a b : ℤ) → Holds i v (at_most_of a b) → a ≤ℤ b
+at_most i v a b h = from_at_most a b ((comparisons_meant i v LessEqual (number a) (number b) refl refl).0 h)
 
 in_range_is : (z : ℤ) → least Int ≤ℤ z → z ≤ℤ greatest Int → in_range Int z ≡ true
 in_range_is z low high = and_from (int_le (least Int) z) (int_le z (greatest Int)) (grind (arith, ints)) (grind (arith, ints))
 
 -- under facts that hold, what was proved to fit is in the range of int
-within : (place : Place) (path : List Literal) (w : NumberTerm) (v : Valuation) → Meets path v → Allows (fits place path w) (Ok tt) → in_range Int w.number ≡ true
+within : (i : Interpretation) (v : Valuation) (place : Place) (path : List Literal) (w : NumberTerm) → Meets i v path → Allows i (fits place path w) (Ok tt) → in_range Int w.number ≡ true
 unfolding fits
-within place path w v meets p =
-    let both = allows_try (required rules.Range place path (at_most_of (least Int) w.number)) _ tt p in
-    let low = required_entails rules.Range place path (at_most_of (least Int) w.number) both.first v meets in
-    let high = required_entails rules.Range place path (at_most_of w.number (greatest Int)) both.later v meets in
-    in_range_is w.number (at_most (least Int) w.number v low) (at_most w.number (greatest Int) v high)
+within i v place path w meets p =
+    let both = allows_try i (required rules.Range place path (at_most_of (least Int) w.number)) _ tt p in
+    let low = required_entails i rules.Range place path (at_most_of (least Int) w.number) both.first v meets in
+    let high = required_entails i rules.Range place path (at_most_of w.number (greatest Int)) both.later v meets in
+    in_range_is w.number (at_most i v (least Int) w.number low) (at_most i v w.number (greatest Int) high)
 
 ranged_is : (place : Place) (z : ℤ) (b : Bool) → b ≡ true → cond b (Gives (values.Number z)) (Fails faults.Range place) ≡ Gives (values.Number z)
 ranged_is place z b is = ap (λ (x : Bool). cond x (Gives (values.Number z)) (Fails faults.Range place)) is
@@ -110,30 +118,30 @@ operated locals left right o place a b p q =
     ap (λ x. and_then x (λ v. and_then (evaluate locals right) (λ w. computed (operator_of o) Int place (number_of v) (number_of w)))) p
     ∙ ap (λ x. and_then x (λ w. computed (operator_of o) Int place a (number_of w))) q
 
-module _ (name : Place) (path : List Literal) (locals : Locals) (v : Valuation) (meets : Meets path v) where
-  add_one : (z w : NumberTerm) (link : Link) (left : ExpressionTree) → evaluate (values_of locals) left ≡ Gives (values.Number z.number) → Allows (adds_one name path locals z link) (Ok w) → evaluate (values_of locals) (linked left link) ≡ Gives (values.Number w.number)
+module _ (i : Interpretation) (v : Valuation) (name : Place) (path : List Literal) (locals : Locals) (meets : Meets i v path) where
+  add_one : (z w : NumberTerm) (link : Link) (left : ExpressionTree) → evaluate (values_of locals) left ≡ Gives (values.Number z.number) → Allows i (adds_one name path locals z link) (Ok w) → evaluate (values_of locals) (linked left link) ≡ Gives (values.Number w.number)
   unfolding adds_one
   add_one z w link left is p =
-      let summed = had (sum_with (operand_value name locals link.operand) z link) _ w p in
-      let fitted = allows_try (fits link.place path summed.0) _ w summed.2 in
-      let same : w ≡ summed.0 = ok_same (allows_done (Ok summed.0) (Ok w) fitted.later) in
+      let summed = had i (sum_with (operand_value name locals link.operand) z link) _ w p in
+      let fitted = allows_try i (fits link.place path summed.0) _ w summed.2 in
+      let same : w ≡ summed.0 = ok_same (allows_done i (Ok summed.0) (Ok w) fitted.later) in
       let parts = added name locals z summed.0 link (operand_value name locals link.operand) refl summed.1 in
       let right = operand_is name locals link.operand parts.right parts.operand in
-      let range = within link.place path summed.0 v meets fitted.first in
+      let range = within i v link.place path summed.0 meets fitted.first in
       operated (values_of locals) left (operand_of link.operand) link.operator link.place z.number parts.right.number is right
       ∙ computed_is link.operator link.place z.number parts.right.number summed.0.number parts.sum range
       ∙ ap (λ (y : NumberTerm). Gives (values.Number y.number)) (sym same)
 
-  add_all : (z w : NumberTerm) (links : List Link) (left : ExpressionTree) → evaluate (values_of locals) left ≡ Gives (values.Number z.number) → Allows (adds name path locals z links) (Ok w) → evaluate (values_of locals) (fold linked left links) ≡ Gives (values.Number w.number)
+  add_all : (z w : NumberTerm) (links : List Link) (left : ExpressionTree) → evaluate (values_of locals) left ≡ Gives (values.Number z.number) → Allows i (adds name path locals z links) (Ok w) → evaluate (values_of locals) (fold linked left links) ≡ Gives (values.Number w.number)
   unfolding adds
-  add_all z w [] left is p = is ∙ ap (λ (y : NumberTerm). Gives (values.Number y.number)) (sym (ok_same (allows_done (Ok z) (Ok w) p)))
+  add_all z w [] left is p = is ∙ ap (λ (y : NumberTerm). Gives (values.Number y.number)) (sym (ok_same (allows_done i (Ok z) (Ok w) p)))
   add_all z w (link ∷ links) left is p =
-      let one = allows_try (adds_one name path locals z link) _ w p in
+      let one = allows_try i (adds_one name path locals z link) _ w p in
       add_all one.value w links (linked left link) (add_one z one.value link left is one.first) one.later
 
   -- a sum that the rules have a term for has that term's number in the machine
-  pub evaluates_is : (w : NumberTerm) (e : Expression) → Allows (evaluates name path locals e) (Ok w) → evaluate (values_of locals) (expression_of e) ≡ Gives (values.Number w.number)
+  pub evaluates_is : (w : NumberTerm) (e : Expression) → Allows i (evaluates name path locals e) (Ok w) → evaluate (values_of locals) (expression_of e) ≡ Gives (values.Number w.number)
   unfolding evaluates
   evaluates_is w e p =
-      let first = had (operand_value name locals e.first) _ w p in
+      let first = had i (operand_value name locals e.first) _ w p in
       add_all first.0 w e.rest (operand_of e.first) (operand_is name locals e.first first.0 first.1) first.2

@@ -1,5 +1,5 @@
 -- The examples.
-use Rattle.std.proofs.Common.{◌≡◌, ◌∙◌, refl, sym, ap, subst, inl, inr, ℕ, zero, suc, List, [], ◌∷◌, slice_get, Some, None, true, Ok, arith}
+use Rattle.std.proofs.Common.{◌≡◌, ◌∙◌, refl, sym, ap, subst, inl, inr, ℕ, zero, suc, List, [], ◌∷◌, slice_get, Some, None, true, false, Ok, arith}
 use Rattle.std.specs.Prelude.{ℤ, pos, negsuc, ◌≤ℤ◌, codes}
 use Rattle.std.proofs.lemmas.Int.{ints}
 use Rattle.std.proofs.lemmas.Bool.{false≢true}
@@ -11,21 +11,25 @@ use Rattle.vf_tree.specs.Shown.{program_of}
 use Rattle.vf_model.specs.declared.words.FaultKind.TheVariants.{Range}
 use Rattle.vf_model.specs.Values as values
 use Rattle.vf_model.specs.Integers.{least, greatest}
-use Rattle.vf_term.specs.Term.{Truth}
-use Rattle.vf_term.specs.declared.answers.Answer.TheVariants.{Proved, Unknown}
-use Rattle.vf_term.specs.declared.literal.Literal.{Literal}
-use Rattle.vf_term.specs.declared.literal.Literal.TheVariants.{NotEqual, AtMost, False}
-use Rattle.vf_term.specs.Literals.{zero_term, at_most_of, equal_of, truth_of}
-use Rattle.vf_term.specs.Closure.{same_self, arises, zero_arises, most, weaker, number_up, number_down, Conflict, below_itself, denied_equality, denied_difference, IsRefuted}
-use Rattle.vf_term.specs.Question.{has_too_many_terms, question_terms}
-use Rattle.vf_term.specs.Journal.{Seen, nothing_seen, noted, counted, begun}
-use Rattle.vf_term.specs.Course.{Follows, after, try, asked, pushed}
-use Rattle.vf_term.specs.Right.{IsRight, AreRightFrom}
-use Rattle.vf_term.proofs.Sound.{no_conflict, refutations_sound}
-use Rattle.vf_exec.specs.Main.{required, fits, adds_one, adds, evaluates, returns, leaves, runs, enters, checks_function, checks_main, checks}
+use Rattle.vf_closure.specs.Terms.{Truth, term, no_terms, number, itself}
+use Rattle.vf_asking.specs.declared.answers.Answer.TheVariants.{Proved, Unknown}
+use Rattle.vf_closure.specs.Literals.{Literal, NotEqual, AtMost, False}
+use Rattle.vf_closure.specs.Closure.{zero_arises, same_self, most, weaker, still, Conflict, below_itself, denied_equality, denied_difference, IsRefuted}
+use Rattle.vf_closure.specs.Closure as closure
+use Rattle.vf_definitions.specs.Unfolded.{unfoldings_of}
+use Rattle.vf_definitions.proofs.Soundness.{definitions_entail}
+use Rattle.vf_exec.specs.Literals.{at_most_of, equal_of, truth_of}
+use Rattle.vf_asking.specs.Question.{has_too_many_terms}
+use Rattle.vf_asking.specs.Journal.{Seen, nothing_seen, noted, counted, begun}
+use Rattle.vf_asking.specs.Course.{Follows, after, try, pushed}
+use Rattle.vf_asking.specs.Course as course
+use Rattle.vf_asking.specs.Right.{IsRight, AreRightFrom}
+use Rattle.vf_exec.specs.Main.{required, fits, adds_one, adds, evaluates, returns, leaves, runs, enters, assumes, checks_function, checks_main, checks}
 use Rattle.vf_meaning.specs.Fractions.{whole}
 use Rattle.vf_meaning.specs.Assertions.{Environment, ContractTree}
 use Rattle.vf_meaning.specs.Valuations.{Valuation}
+use Rattle.vf_meaning.specs.GhostValues.{Interpretation, interpreted}
+use Rattle.vf_definitions.specs.Laws.{MeetsDefinitions}
 use Rattle.vf_meaning.specs.Parts.{Part}
 use Rattle.vf_meaning.specs.Satisfaction.{Satisfies}
 use Rattle.vf_meaning.specs.Kept.{before, Returns, with_result}
@@ -35,57 +39,68 @@ use Rattle.vf_sound.specs.Examples.{seven, seven_for_eight, one_event, SevenIsAc
 use Rattle.vf_sound.proofs.Bodies.{only_fact}
 
 -- ---- right answers
-right_where_refuted : (unit : ℕ) (path : List Literal) (goal : Literal) → IsRefuted path goal → IsRight (record { unit = unit; path = path; goal = goal; answer = Proved })
-right_where_refuted unit path goal r = record { proved = λ e. refutations_sound path goal r; refuted = λ e. r; unknown = λ e. absurd (clash e) }
+-- a plain refutation without definitions
+abbrev Refuted : List Literal → Literal → Type 0
+Refuted path goal = IsRefuted (unfoldings_of []) path goal
+
+right_where_refuted : (unit : ℕ) (path : List Literal) (goal : Literal) → Refuted path goal → IsRight (record { unit = unit; definitions = []; path = path; goal = goal; answer = Proved })
+right_where_refuted unit path goal r = record { proved = λ e i meets. definitions_entail [] path goal r i meets; refuted = λ e. r; unknown = λ e. absurd (clash e) }
   where
     clash : Proved ≡ Unknown → ⊥
     clash e = cc
 
-right_where_open : (unit : ℕ) (path : List Literal) (goal : Literal) → (IsRefuted path goal → ⊥) → IsRight (record { unit = unit; path = path; goal = goal; answer = Unknown })
+right_where_open : (unit : ℕ) (path : List Literal) (goal : Literal) → (Refuted path goal → ⊥) → IsRight (record { unit = unit; definitions = []; path = path; goal = goal; answer = Unknown })
 right_where_open unit path goal r = record { proved = λ e. absurd (clash e); refuted = λ e. absurd (clash e); unknown = λ e. r }
   where
     clash : Unknown ≡ Proved → ⊥
     clash e = cc
 
 -- a truth is true, whatever is known
-truth_refuted : IsRefuted [] (truth_of true)
-truth_refuted = denied_equality (0, omega arith, refl) (same_self (arises {l = NotEqual (Truth true) (Truth true)} (0, omega arith, refl) (0, omega arith, refl)))
+truth_refuted : Refuted [] (truth_of true)
+truth_refuted = denied_equality {a = term (Truth true) no_terms} {b = term (Truth true) no_terms} (0, omega arith, refl)
+    (same_self {d = 0} (closure.asked {l = NotEqual (term (Truth true) no_terms) (term (Truth true) no_terms)} (0, omega arith, refl) (0, omega arith, refl) itself))
 
 known : List Literal
 known = truth_of true ∷ []
 
+nothing_declared : Interpretation
+nothing_declared = interpreted (λ g t. false) []
+
+nothing_defined : MeetsDefinitions nothing_declared []
+nothing_defined f (k, low, is) = absurd (omega arith)
+
 -- what is known is not absurd
-nothing_absurd : IsRefuted known False → ⊥
+nothing_absurd : Refuted known False → ⊥
 unfolding known
-nothing_absurd r = no_conflict (truth_of true ∷ []) (λ name. values.Null) (only_fact (truth_of true) (λ name. values.Null) refl) r
+nothing_absurd r = definitions_entail [] (truth_of true ∷ []) False r nothing_declared nothing_defined (λ name. values.Null) (only_fact nothing_declared (λ name. values.Null) (truth_of true) refl)
 
 -- a bound of nought that is below nought has no place
-at_most_refuted : (c d : ℤ) → d ≤ℤ negsuc 0 → Conflict (truth_of true ∷ AtMost zero_term zero_term d ∷ [])
-at_most_refuted c d low = below_itself (weaker low (most (1, omega arith, refl)))
+at_most_refuted : (d : ℤ) → d ≤ℤ negsuc 0 → Conflict (unfoldings_of []) (truth_of true ∷ AtMost (number (pos 0)) (number (pos 0)) d ∷ [])
+at_most_refuted d low = below_itself (weaker low (most (1, omega arith, refl)))
 
-low_refuted : IsRefuted known (at_most_of (least Int) (pos 7))
+low_refuted : Refuted known (at_most_of (least Int) (pos 7))
 unfolding known
-low_refuted = at_most_refuted (pos 0) _ (omega (arith, ints))
+low_refuted = at_most_refuted _ (omega (arith, ints))
 
-high_refuted : IsRefuted known (at_most_of (pos 7) (greatest Int))
+high_refuted : Refuted known (at_most_of (pos 7) (greatest Int))
 unfolding known
-high_refuted = at_most_refuted (pos 0) _ (omega (arith, ints))
+high_refuted = at_most_refuted _ (omega (arith, ints))
 
-equal_refuted : IsRefuted known (equal_of (pos 7) (pos 7))
+equal_refuted : Refuted known (equal_of (pos 7) (pos 7))
 unfolding known
-equal_refuted = denied_difference {x = zero_term} {y = zero_term} {c = pos 0} (1, omega arith, refl) (number_up zero_arises) (number_down zero_arises)
+equal_refuted = denied_difference {x = number (pos 0)} {y = number (pos 0)} {c = pos 0} (1, omega arith, refl) (still {d = 0} refl zero_arises) (still {d = 0} refl zero_arises)
 
 -- ---- the run of the rules
 after_precondition : Seen
-after_precondition = counted (noted (begun nothing_seen) [] (truth_of true) Proved)
+after_precondition = counted (noted (begun [] nothing_seen) [] (truth_of true) Proved)
 
 seen_at_end : Seen
 seen_at_end =
     noted (noted (noted (noted after_precondition known False Unknown) known (at_most_of (least Int) (pos 7)) Proved) known (at_most_of (pos 7) (greatest Int)) Proved)
     known (equal_of (pos 7) (pos 7)) Proved
 
-seven_follows : Follows (checks seven) (begun nothing_seen) seen_at_end (Ok tt)
-unfolding checks checks_main checks_function required asked pushed try after enters runs leaves evaluates adds adds_one fits returns has_too_many_terms question_terms Follows seen_at_end after_precondition known
+seven_follows : Follows (checks seven) (begun [] nothing_seen) seen_at_end (Ok tt)
+unfolding checks checks_main checks_function assumes required course.asked pushed try after enters runs leaves evaluates adds adds_one fits returns has_too_many_terms Follows seen_at_end after_precondition known
 seven_follows = inl (inl (omega arith, inr (inl (inl (inl (refl, refl))))))
 
 seven_right : AreRightFrom 0 seen_at_end

@@ -9,9 +9,9 @@ use Rattle.vf_tree.specs.declared.unit.Pure.{Pure}
 use Rattle.vf_tree.specs.declared.unit.Pure.TheVariants.{True, ResultIs}
 use Rattle.vf_tree.specs.declared.unit.Core.{Core}
 use Rattle.vf_model.specs.declared.words.Event.{Event}
-use Rattle.vf_term.specs.Journal.{Seen, nothing_seen, begun}
-use Rattle.vf_term.specs.Course.{Follows}
-use Rattle.vf_term.specs.Right.{AreRightFrom}
+use Rattle.vf_asking.specs.Journal.{Seen, nothing_seen, begun}
+use Rattle.vf_asking.specs.Course.{Follows}
+use Rattle.vf_asking.specs.Right.{AreRightFrom}
 use Rattle.vf_meaning.specs.Assertions.{Environment}
 use Rattle.vf_meaning.specs.Environments.{IsLinked}
 use Rattle.vf_meaning.specs.Kept.{IsSafe, Kept}
@@ -55,10 +55,10 @@ too_great = returns_sum (True (at 3 13)) (pos 2147483647) (pos 1)
 abbrev pub one_event : List Event
 one_event = record { thread = 0; grant = 0 } ∷ []
 
--- the rules accept a core by right answers
+-- the rules accept a core by right answers, its unit having been begun without definitions
 pub record IsAcceptedRightly (core : Core) : Type 0 where
   pub end : Seen
-  pub follows : Follows (checks core) (begun nothing_seen) end (Ok tt)
+  pub follows : Follows (checks core) (begun [] nothing_seen) end (Ok tt)
   pub right : AreRightFrom 0 end
 
 -- something is accepted, so that the safety of what is accepted says something

@@ -13,10 +13,13 @@ use Rattle.vf_model.specs.Races.{Race}
 use Rattle.vf_meaning.specs.Assertions.{Environment}
 use Rattle.vf_meaning.specs.Environments.{Extends, IsLinked}
 use Rattle.vf_meaning.specs.Kept.{before, IsSafe, Kept}
-use Rattle.vf_term.specs.Journal.{Seen}
-use Rattle.vf_term.specs.Course.{Follows}
-use Rattle.vf_term.specs.Right.{AreRightFrom}
+use Rattle.vf_meaning.specs.GhostValues.{Interpretation}
+use Rattle.vf_definitions.specs.Laws.{MeetsDefinitions}
+use Rattle.vf_asking.specs.Journal.{Seen}
+use Rattle.vf_asking.specs.Course.{Follows}
+use Rattle.vf_asking.specs.Right.{AreRightFrom}
 use Rattle.vf_exec.specs.Main.{checks}
+use Rattle.vf_sound.specs.Allowed.{definitions_of}
 use Rattle.vf_sound.specs.Environment.{environment_of}
 use Rattle.vf_sound.specs.Formed.{IsFormed}
 
@@ -51,8 +54,8 @@ OneUnitLinks = (core : Core) → IsLinked (environment_of core ∷ []) (environm
 abbrev pub IsAlwaysSafe : Environment → ProgramTree → Type 0
 IsAlwaysSafe e p = (events : List Event) → IsSafe p events × Kept e p events
 
--- where the rules accept a core by right answers, its program is safe and keeps what it owes, whichever its events, in each environment that has all of the unit's
+-- where the rules accept a core by right answers, its program is safe and keeps what it owes, whichever its events, in each environment that has all of the unit's; the fixpoints of the unit that asked have to be such that something gives them the values of their bodies
 abbrev pub AcceptedIsSafe : Type 0
 AcceptedIsSafe =
-    (core : Core) (e : Environment) (origin : ℕ) (s t : Seen) → IsFormed core → Extends (environment_of core) e
-    → origin ≤ length s.entries → Follows (checks core) s t (Ok tt) → AreRightFrom origin t → IsAlwaysSafe e (program_of core.plain)
+    (core : Core) (e : Environment) (i : Interpretation) (origin : ℕ) (s t : Seen) → IsFormed core → Extends (environment_of core) e
+    → MeetsDefinitions i (definitions_of s) → origin ≤ length s.entries → Follows (checks core) s t (Ok tt) → AreRightFrom origin t → IsAlwaysSafe e (program_of core.plain)

@@ -1,4 +1,5 @@
 pub mod Allowed
+pub mod Decided
 pub mod Environment
 pub mod Examples
 pub mod Formed

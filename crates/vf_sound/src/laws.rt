@@ -2,6 +2,7 @@
 //! contract is the law.
 
 ghost use Rattle.vf_sound.specs.Allowed.{RightAnswersAllow};
+ghost use Rattle.vf_sound.specs.Decided.{AnswersDecideGoals};
 ghost use Rattle.vf_sound.specs.Laws.{EventsFollow, OneThreadHasNoRace, OneUnitLinks, SafeRunsShowNoFault, TestsHoldThroughout};
 ghost use Rattle.vf_sound.specs.Shares.{NothingIsShared, QuietStepsKeep};
 
@@ -9,6 +10,12 @@ ghost use Rattle.vf_sound.specs.Shares.{NothingIsShared, QuietStepsKeep};
 /// journal.
 pub fn right_answers_allow<A>()
     ensures { RightAnswersAllow A }
+{}
+
+/// Under facts that hold, a right answer is Proved exactly where the goal holds, for every goal of this
+/// form: such goals are decided.
+pub fn answers_decide_goals()
+    ensures { AnswersDecideGoals }
 {}
 
 /// Each event leads from the state before it to the one before the next.

@@ -8,9 +8,9 @@ use Rattle.vf_snapshot.specs.declared.held.Held.{Held}
 use Rattle.vf_snapshot.specs.declared.held.Held.TheVariants as known
 use Rattle.vf_snapshot.specs.Holdings.{Holdings, IsHeldAt, IsKnown, known_of, number_in}
 use Rattle.vf_expand.specs.Worlds.{World, world, AllTold, IsToldBy, Reads, prelude_text}
-use Rattle.vf_term.specs.declared.journal.Journal.{Journal}
-use Rattle.vf_term.specs.Journal.{Seen, seen, nothing_seen, asked_of}
-use Rattle.vf_term.specs.Right.{AreRightFrom}
+use Rattle.vf_asking.specs.declared.journal.Journal.{Journal}
+use Rattle.vf_asking.specs.Journal.{Seen, seen, nothing_seen, asked_of}
+use Rattle.vf_asking.specs.Right.{AreRightFrom}
 use Rattle.vf_tool.specs.declared.status.Stop.{Stop}
 use Rattle.vf_tool.specs.declared.status.Stop.TheVariants as stops
 use Rattle.vf_tool.specs.declared.verdict.Verdict.{Verdict}
@@ -21,11 +21,11 @@ use Rattle.vf_tool.specs.Run.{Answers, IsAnswer, IsLacking, text_of, is_accepted
 -- a fresh journal has begun no unit, and has no entry
 pub fresh_units : (j : Journal) → seen j ≡ nothing_seen → length j.units ≡ 0
 unfolding seen
-fresh_units j e = ap (λ (s : Seen). s.units) e
+fresh_units j e = ap (λ (s : Seen). length s.units) e
 
 pub fresh_entries : (j : Journal) → seen j ≡ nothing_seen → length j.entries ≡ 0
 unfolding seen
-fresh_entries j e = sym (length-map j.entries (asked_of j.trail.facts)) ∙ ap (λ (s : Seen). length s.entries) e
+fresh_entries j e = sym (length-map j.entries (asked_of j.units j.trail.facts)) ∙ ap (λ (s : Seen). length s.entries) e
 
 -- all that is held where nothing is held is told
 nothing_told : (contents : Contents) (held : Holdings) → held ≡ [] → AllTold contents held

@@ -1,28 +1,32 @@
 -- Verdicts from what reading, beginning and checking say.
-use Rattle.std.proofs.Common.{◌≡◌, ◌∙◌, inl, inr, refl, sym, ap, subst, List, ℕ, Option, Some, Result, Ok, Err}
+use Rattle.std.proofs.Common.{◌≡◌, ◌∙◌, inl, inr, refl, sym, ap, subst, List, [], ℕ, Option, Some, Result, Ok, Err}
 use Rattle.vf_base.specs.declared.refusal.Refusal.{Refusal}
 use Rattle.vf_base.specs.declared.refusal.RuleFault.TheVariants.{Refused as Blamed}
 use Rattle.vf_snapshot.specs.Holdings.{Holdings}
 use Rattle.vf_preproc.specs.UnitText.{Library}
 use Rattle.vf_preproc.specs.Units.{Tells}
 use Rattle.vf_tree.specs.declared.unit.Core.{Core}
-use Rattle.vf_term.specs.declared.journal.Definitions.{Definitions}
-use Rattle.vf_term.specs.declared.journal.Journal.{Journal}
-use Rattle.vf_term.specs.Journal.{Seen, seen, begun, HasBegun}
-use Rattle.vf_term.specs.Course.{Follows, Blames}
-use Rattle.vf_term.proofs.Seeing.{seen_begun}
+use Rattle.vf_definitions.specs.declared.fixpoint.Fixpoint.{Fixpoint}
+use Rattle.vf_asking.specs.declared.journal.Journal.{Journal}
+use Rattle.vf_asking.specs.Journal.{Seen, seen, begun, HasBegun}
+use Rattle.vf_asking.specs.Course.{Follows, Blames}
+use Rattle.vf_asking.proofs.Seeing.{seen_begun}
 use Rattle.vf_exec.specs.Main.{checks}
 use Rattle.vf_tool.specs.declared.verdict.Verdict.{Verdict}
 use Rattle.vf_tool.specs.declared.verdict.Verdict.TheVariants.{Accepted, Refused}
 use Rattle.vf_tool.specs.Readings.{ReadsAs}
 use Rattle.vf_tool.specs.Verdict.{Checked, Judged, JudgedBy}
 
-pub accepts : (core : Core) (defs : Definitions) (j k : Journal) (t : Seen) → HasBegun defs j k → Follows (checks core) (seen k) t (Ok tt) → Checked core (seen j) t (Accepted core)
-accepts core defs j k t begins p = (refl, subst (λ (s : Seen). Follows (checks core) s t (Ok tt)) (seen_begun defs j k begins) p)
+-- a journal in which a unit was begun without definitions
+begun_bare : (j k : Journal) (defs : List Fixpoint) → defs ≡ [] → HasBegun defs j k → seen k ≡ begun [] (seen j)
+begun_bare j k defs none begins = seen_begun defs j k begins ∙ ap (λ (d : List Fixpoint). begun d (seen j)) none
 
-pub refuses : (core : Core) (defs : Definitions) (j k : Journal) (t : Seen) (refusal : Refusal) → HasBegun defs j k → Blames (checks core) (seen k) t (Blamed refusal) → Checked core (seen j) t (Refused refusal)
+pub accepts : (core : Core) (j k : Journal) (defs : List Fixpoint) (t : Seen) → defs ≡ [] → HasBegun defs j k → Follows (checks core) (seen k) t (Ok tt) → Checked core (seen j) t (Accepted core)
+accepts core j k defs t none begins p = (refl, subst (λ (s : Seen). Follows (checks core) s t (Ok tt)) (begun_bare j k defs none begins) p)
+
+pub refuses : (core : Core) (j k : Journal) (defs : List Fixpoint) (t : Seen) (refusal : Refusal) → defs ≡ [] → HasBegun defs j k → Blames (checks core) (seen k) t (Blamed refusal) → Checked core (seen j) t (Refused refusal)
 unfolding Blames
-refuses core defs j k t refusal begins p = subst (λ (s : Seen). Follows (checks core) s t (Err refusal)) (seen_begun defs j k begins) p
+refuses core j k defs t refusal none begins p = subst (λ (s : Seen). Follows (checks core) s t (Err refusal)) (begun_bare j k defs none begins) p
 
 -- the file at a path reads as this, whatever stands in files of which nothing is held
 abbrev pub ReadsBy : Holdings → List ℕ → Result Core Refusal → Type 0
@@ -34,7 +38,7 @@ unread held path s refusal reads = λ library tells. inr (record { reads = reads
 judged : (held : Holdings) (library : Library) (path : List ℕ) (s t : Seen) (core : Core) (v : Verdict) → ReadsAs held library path (Ok core) → Checked core s t v → Judged held library path s t v
 judged held library path s t core (Accepted accepted) reads (same, follows) = record {
   reads = subst (λ (c : Core). ReadsAs held library path (Ok c)) (sym same) reads;
-  follows = subst (λ (c : Core). Follows (checks c) (begun s) t (Ok tt)) (sym same) follows;
+  follows = subst (λ (c : Core). Follows (checks c) (begun [] s) t (Ok tt)) (sym same) follows;
 }
 judged held library path s t core (Refused refusal) reads follows = inl (record { core = core; reads = reads; follows = follows })
 

@@ -1,10 +1,12 @@
 -- What is accepted is safe.
-use Rattle.std.proofs.Common.{◌≡◌, ◌∙◌, refl, sym, subst, ℕ, List, [], ◌∷◌, Bool, Some, IfSome, arith}
+use Rattle.std.proofs.Common.{◌≡◌, ◌∙◌, refl, sym, subst, ℕ, List, [], ◌∷◌, Bool, false, Some, IfSome, arith}
 use Rattle.vf_base.specs.Outside.{Contents, FileMap}
 use Rattle.vf_tree.specs.Shown.{program_of}
 use Rattle.vf_tree.specs.declared.unit.Core.{Core}
-use Rattle.vf_term.specs.Journal.{Seen, nothing_seen, begun}
-use Rattle.vf_term.specs.Right.{AreRightFrom}
+use Rattle.vf_asking.specs.Journal.{Seen, nothing_seen, begun}
+use Rattle.vf_asking.specs.Right.{AreRightFrom}
+use Rattle.vf_meaning.specs.GhostValues.{Interpretation, interpreted}
+use Rattle.vf_definitions.specs.Laws.{MeetsDefinitions}
 use Rattle.vf_meaning.specs.Assertions.{Environment}
 use Rattle.vf_meaning.specs.Environments.{Extends}
 use Rattle.vf_sound.specs.Environment.{environment_of}
@@ -27,10 +29,17 @@ use Rattle.vf_tool.proofs.Readable.{reading_is_formed}
 formed : (held : Holdings) (library : Library) (file : List ℕ) (t : Seen) (core : Core) → IsAccepted held library file nothing_seen t core → IsFormed core
 formed held library file t core accepted = reading_is_formed held library file core accepted.reads
 
+-- a unit of this form has no fixpoints, so that whatever is declared gives them the values of their bodies
+nothing_declared : Interpretation
+nothing_declared = interpreted (λ g t. false) []
+
+nothing_defined : MeetsDefinitions nothing_declared []
+nothing_defined f (k, low, is) = absurd (omega arith)
+
 -- a unit that is accepted by right answers is safe, in each environment that has all of the unit's
 always_safe : (held : Holdings) (library : Library) (file : List ℕ) (t : Seen) (core : Core) (e : Environment) → AreRightFrom 0 t → IsAccepted held library file nothing_seen t core → Extends (environment_of core) e → IsAlwaysSafe e (program_of core.plain)
 always_safe held library file t core e right accepted extends =
-    accepted_is_safe core e 0 (begun nothing_seen) t (formed held library file t core accepted) extends (omega arith) accepted.follows right
+    accepted_is_safe core e nothing_declared 0 (begun [] nothing_seen) t (formed held library file t core accepted) extends nothing_defined (omega arith) accepted.follows right
 
 safe_unit : (held : Holdings) (library : Library) (file : List ℕ) (t : Seen) (core : Core) → AreRightFrom 0 t → IsAccepted held library file nothing_seen t core → IsSafeLinked (environment_of core ∷ []) (program_of core.plain)
 safe_unit held library file t core right accepted = record {

@@ -5,10 +5,10 @@ use Rattle.vf_base.specs.Outside.{Contents, FileMap}
 use Rattle.vf_base.specs.declared.refusal.Refusal.{Refusal}
 use Rattle.vf_tree.specs.declared.unit.Core.{Core}
 use Rattle.vf_model.specs.declared.words.Event.{Event}
-use Rattle.vf_term.specs.Course.{Follows}
-use Rattle.vf_term.specs.Journal.{Seen, nothing_seen, begun}
-use Rattle.vf_term.specs.Right.{AreRightFrom}
-use Rattle.vf_term.proofs.Determined.{right_determined}
+use Rattle.vf_asking.specs.Course.{Follows}
+use Rattle.vf_asking.specs.Journal.{Seen, nothing_seen, begun}
+use Rattle.vf_asking.specs.Right.{AreRightFrom}
+use Rattle.vf_asking.proofs.Determined.{right_determined}
 use Rattle.vf_exec.specs.Main.{checks}
 use Rattle.vf_tool.specs.declared.verdict.Verdict.{Verdict}
 use Rattle.vf_tool.specs.declared.verdict.Verdict.TheVariants.{Accepted, Refused}
@@ -37,9 +37,9 @@ pub one_file : (words : List (List ℕ)) (s f s2 f2 : List ℕ) → IsRun words 
 one_file words s f s2 f2 p q = p.file_is ∙ ap (normal []) (one_word words s f s2 f2 p q) ∙ sym q.file_is
 
 -- an acceptance and a refusal do not both follow by right answers
-both_ways : (core core2 : Core) (refusal : Refusal) (t u : Seen) → core ≡ core2 → Follows (checks core) (begun nothing_seen) t (Ok tt) → Follows (checks core2) (begun nothing_seen) u (Err refusal) → AreRightFrom 0 t → AreRightFrom 0 u → ⊥
+both_ways : (core core2 : Core) (refusal : Refusal) (t u : Seen) → core ≡ core2 → Follows (checks core) (begun [] nothing_seen) t (Ok tt) → Follows (checks core2) (begun [] nothing_seen) u (Err refusal) → AreRightFrom 0 t → AreRightFrom 0 u → ⊥
 both_ways core core2 refusal t u same p q right right2 =
-    let one = right_determined (checks core2) 0 (begun nothing_seen) t u (Ok tt) (Err refusal) (omega arith) (subst (λ (c : Core). Follows (checks c) (begun nothing_seen) t (Ok tt)) same p) q right right2 in
+    let one = right_determined (checks core2) 0 (begun [] nothing_seen) t u (Ok tt) (Err refusal) (omega arith) (subst (λ (c : Core). Follows (checks c) (begun [] nothing_seen) t (Ok tt)) same p) q right right2 in
     let differ : Ok tt ≡ Err refusal = one.0 in cc
 
 -- a file reads as one thing

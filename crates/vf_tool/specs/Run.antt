@@ -8,8 +8,8 @@ use Rattle.vf_tree.specs.Core.{ProgramTree}
 use Rattle.vf_tree.specs.Shown.{program_of}
 use Rattle.vf_model.specs.declared.words.Event.{Event}
 use Rattle.vf_model.specs.Runs.{reach, outcome_of}
-use Rattle.vf_term.specs.Journal.{Seen, nothing_seen}
-use Rattle.vf_term.specs.Right.{AreRightFrom}
+use Rattle.vf_asking.specs.Journal.{Seen, nothing_seen}
+use Rattle.vf_asking.specs.Right.{AreRightFrom}
 use Rattle.vf_tool.specs.declared.status.Status.{Status}
 use Rattle.vf_tool.specs.declared.status.Status.TheVariants as statuses
 use Rattle.vf_tool.specs.declared.verdict.Verdict.{Verdict}

@@ -6,7 +6,7 @@ use Rattle.vf_expand.specs.Worlds.{AllTold}
 use Rattle.vf_tree.specs.Core.{ProgramTree}
 use Rattle.vf_tree.specs.Shown.{program_of}
 use Rattle.vf_model.specs.declared.words.Event.{Event}
-use Rattle.vf_term.specs.Journal.{Seen, nothing_seen}
+use Rattle.vf_asking.specs.Journal.{Seen, nothing_seen}
 use Rattle.vf_meaning.specs.Assertions.{Environment}
 use Rattle.vf_meaning.specs.Environments.{IsLinked}
 use Rattle.vf_meaning.specs.Kept.{IsSafe, Kept}

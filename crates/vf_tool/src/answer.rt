@@ -6,8 +6,8 @@ ghost use Rattle.std.specs.List.{fold};
 ghost use Rattle.vf_model.specs.Runs.{after};
 ghost use Rattle.vf_machine.specs.Machine.{machine_program, machine_state};
 ghost use Rattle.vf_base.specs.Outside.{Rose, IsAbsent};
-ghost use Rattle.vf_term.specs.Journal.{seen, nothing_seen};
-ghost use Rattle.vf_term.specs.Right.{AreRightFrom};
+ghost use Rattle.vf_asking.specs.Journal.{seen, nothing_seen};
+ghost use Rattle.vf_asking.specs.Right.{AreRightFrom};
 ghost use Rattle.vf_tool.specs.Loaded.{HasNoSchedule};
 ghost use Rattle.vf_snapshot.specs.Paths.{normal};
 ghost use Rattle.vf_tool.specs.Readings.{path_in};
@@ -20,13 +20,13 @@ use crate::status::Stop;
 use crate::verdict::{Verdict, check_unit};
 use std::alloc::Global;
 use std::mem;
+use vf_asking::Journal;
 use vf_base::{Files, Memory, Text};
 use vf_machine::{Machine, assemble_one};
 use vf_model::Event;
 use vf_preproc::path_text;
 use vf_prover::Prover;
 use vf_snapshot::{Snapshot, normal_path};
-use vf_term::Journal;
 use vf_tree::{Plain, erase};
 
 /// Whether the file is accepted, and what is to be printed.

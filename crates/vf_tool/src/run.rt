@@ -3,8 +3,8 @@
 ghost use Rattle.std.specs.Prelude.{◌≡◌, ◌⊎◌, List, ℕ, Some, map, string_bytes};
 ghost use Rattle.vf_base.specs.Outside.{FileMap, Rose};
 ghost use Rattle.vf_model.specs.declared.words.Event.{Event};
-ghost use Rattle.vf_term.specs.Journal.{seen, nothing_seen};
-ghost use Rattle.vf_term.specs.Right.{AreRightFrom};
+ghost use Rattle.vf_asking.specs.Journal.{seen, nothing_seen};
+ghost use Rattle.vf_asking.specs.Right.{AreRightFrom};
 ghost use Rattle.vf_tool.specs.Loaded.{HasSchedule, HasNoSchedule};
 ghost use Rattle.vf_tool.specs.Run.{Prints, BeginsToPrint, OnVerdict, OnStop, OfRun, IsLacking, Decides};
 ghost use Rattle.vf_tool.specs.Safe.{IsSafeRun};
@@ -15,8 +15,8 @@ use crate::answer::run_answer;
 use crate::status::Status;
 use crate::words::run_words_of;
 use std::alloc::Global;
+use vf_asking::Journal;
 use vf_base::{Files, Sink, SinkFault, write_all};
-use vf_term::Journal;
 
 /// Does what the words after the program's name ask for: `run`, the path of a schedule, and a word that
 /// means the path of a source file. The file is checked by itself, linked and run under the schedule, and what came of it

@@ -5,16 +5,17 @@ ghost use Rattle.vf_base.specs.Outside.{Rose};
 ghost use Rattle.vf_snapshot.specs.declared.held.Held.TheVariants as known;
 ghost use Rattle.vf_snapshot.specs.Holdings.{IsHeldAt};
 ghost use Rattle.vf_expand.specs.Worlds.{world, Reads};
-ghost use Rattle.vf_term.specs.Journal.{seen};
+ghost use Rattle.vf_asking.specs.Journal.{seen};
 ghost use Rattle.vf_tool.specs.Verdict.{JudgedBy, Checked};
 
 use crate::reading::{Reading, read_file};
 use crate::status::Stop;
 use std::alloc::Global;
+use vf_asking::Asker;
 use vf_base::{Files, Memory, Refusal, RuleFault};
+use vf_definitions::Definitions;
 use vf_exec::check_main;
 use vf_snapshot::Snapshot;
-use vf_term::{Asker, Definitions};
 use vf_tree::Core;
 
 /// What came of checking a file.
@@ -32,7 +33,7 @@ fn check_core<A: Asker>(alloc: Global, core: Core, asker: &mut A) -> Result<Verd
     ensures checked { IfOk result (λ v. Checked core (seen (A.journal asker.old)) (seen (A.journal asker.new)) v) }
     ensures origin { A.origin asker.new ≡ A.origin asker.old }
 {
-    let root = match asker.begin(&Definitions::new()) {
+    let root = match asker.begin(&Definitions::new(alloc)) {
         Ok(root) => root,
         Err(_) => return Err(Memory),
     };

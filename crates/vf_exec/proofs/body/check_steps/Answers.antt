@@ -1,7 +1,6 @@
 -- Steps, one after another.
-use Rattle.std.proofs.Common.{refl, sym, ap, ◌∙◌, arith}
-use Rattle.vf_term.proofs.Seeing.{grew_path, grew_node, grew_begun, grew_on, grew_not}
-use Rattle.vf_exec.specs.Main.{runs}
+use Rattle.std.proofs.Common.{refl, ◌∙◌, arith}
+use Rattle.vf_asking.proofs.Seeing.{grew_path, grew_node, grew_begun, grew_on, grew_not}
 use Rattle.vf_exec.proofs.Bodies.{runs_start, runs_set, runs_set_fails, runs_leave, runs_leave_fails, runs_end}
 use Rattle.vf_exec.proofs.body.check_steps.Goals as goal
 
@@ -11,7 +10,7 @@ loop-step-init g c = record {
   there = c.requires.there;
   first_there = c.requires.there;
   locals = c.requires.locals;
-  reaches = runs_start _ _ _ _ _ _ _ _ refl;
+  reaches = rw c.as_slice-steps.ensures (runs_start _ _ _ _ _ _ _ _ refl);
   grew = grew_not _;
   origin = refl;
 }

@@ -1,6 +1,6 @@
 use Rattle.std.proofs.Common.{◌≡◌, ◌<◌, length, drop}
-use Rattle.vf_term.specs.Course.{Reaches}
-use Rattle.vf_term.specs.Journal.{Grew, HasNode, path_at, seen}
+use Rattle.vf_asking.specs.Course.{Reaches}
+use Rattle.vf_asking.specs.Journal.{Grew, HasNode, path_at, seen}
 use Rattle.vf_exec.specs.Main.{runs}
 use Rattle.vf_exec.specs.Small.{AreSmall}
 use Rattle.vf_exec.proofs.body.check_steps.Given as goal
@@ -15,7 +15,7 @@ invariant-loop-step g l =
       there : HasNode (journal l.asker) l.at;
       first_there : HasNode (journal l.fn.asker) l.at;
       locals : AreSmall l.locals;
-      reaches : Reaches (runs l.closing l.name l.part path l.fn.unset l.steps) (seen (journal l.fn.asker)) (runs l.closing l.name l.part path l.locals (drop l.step-index l.steps)) (seen (journal l.asker));
+      reaches : Reaches (runs l.function.closing l.core.name l.core.contract.postcondition path l.fn.unset l.function.steps) (seen (journal l.fn.asker)) (runs l.function.closing l.core.name l.core.contract.postcondition path l.locals (drop l.step-index l.steps)) (seen (journal l.asker));
       grew : Grew (journal l.fn.asker) (journal l.asker);
       origin : g.A.Asker.origin l.asker ≡ g.A.Asker.origin l.fn.asker;
     }

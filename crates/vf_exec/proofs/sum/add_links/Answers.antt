@@ -1,6 +1,6 @@
 -- Operands, one after another.
 use Rattle.std.proofs.Common.{refl, ◌∙◌, arith}
-use Rattle.vf_term.proofs.Seeing.{grew_path, grew_node, grew_begun, grew_on, grew_not}
+use Rattle.vf_asking.proofs.Seeing.{grew_path, grew_node, grew_begun, grew_on, grew_not}
 use Rattle.vf_exec.proofs.Sums.{adds_start, adds_step, adds_fails, adds_end, item_is}
 use Rattle.vf_exec.proofs.sum.add_links.Goals as goal
 

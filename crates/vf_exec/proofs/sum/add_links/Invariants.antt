@@ -1,6 +1,6 @@
 use Rattle.std.proofs.Common.{◌≡◌, ◌<◌, length, drop}
-use Rattle.vf_term.specs.Course.{Reaches}
-use Rattle.vf_term.specs.Journal.{Grew, HasNode, path_at, seen}
+use Rattle.vf_asking.specs.Course.{Reaches}
+use Rattle.vf_asking.specs.Journal.{Grew, HasNode, path_at, seen}
 use Rattle.vf_exec.specs.Main.{adds}
 use Rattle.vf_exec.specs.Small.{AreSmall, IsSmallTerm}
 use Rattle.vf_exec.proofs.sum.add_links.Given as goal

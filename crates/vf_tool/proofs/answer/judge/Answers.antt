@@ -1,7 +1,7 @@
 -- What is answered is by what the fresh snapshot then holds, and every answer of the prover is right.
 use Rattle.std.proofs.Common.{◌∙◌, sym, ap, length}
-use Rattle.vf_term.specs.declared.journal.Journal.{Journal}
-use Rattle.vf_term.specs.Journal.{seen}
+use Rattle.vf_asking.specs.declared.journal.Journal.{Journal}
+use Rattle.vf_asking.specs.Journal.{seen}
 use Rattle.vf_tool.proofs.Answering.{right_from, fresh_entries, all_told, answered, absent, stopped}
 use Rattle.vf_tool.proofs.answer.judge.Goals as goal
 

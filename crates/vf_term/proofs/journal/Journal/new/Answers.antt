@@ -1,5 +1,0 @@
-use Rattle.vf_term.proofs.Seeing.{seen_nothing}
-use Rattle.vf_term.proofs.journal.Journal.new.Goals as goal
-
-pub returns-clause-seen : goal.returns-clause-seen
-returns-clause-seen c = seen_nothing _ c.new.ensures c.new-2.ensures c.new-3.ensures

@@ -1,5 +1,0 @@
-use Rattle.vf_term.proofs.Determined.{only_append}
-use Rattle.vf_term.proofs.laws.courses_only_append.Goals as goal
-
-pub returns : goal.returns
-returns g c = only_append

@@ -1,5 +1,0 @@
-use Rattle.vf_term.proofs.Sound.{refutations_sound}
-use Rattle.vf_term.proofs.laws.refutations_are_sound.Goals as goal
-
-pub returns : goal.returns
-returns c = refutations_sound

@@ -1,5 +1,0 @@
-use Rattle.vf_term.proofs.Determined.{right_determined}
-use Rattle.vf_term.proofs.laws.right_courses_are_determined.Goals as goal
-
-pub returns : goal.returns
-returns g c = right_determined
