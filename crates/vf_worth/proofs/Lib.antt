@@ -1,0 +1,8 @@
+pub mod Alike
+pub mod Placing
+pub mod Having
+pub mod Before
+pub mod Naming
+pub mod Operating
+pub mod Reading
+pub mod Values

@@ -1,0 +1,6 @@
+pub mod Instances
+pub mod Declares
+pub mod Worth
+pub mod Given
+pub mod Agreement
+pub mod Laws

@@ -1,0 +1,29 @@
+//! Laws of the terms of ghost expressions. Each function does nothing; its contract is the law.
+
+ghost use Rattle.vf_worth.specs.Agreement.{AgreementGoesBack};
+ghost use Rattle.vf_worth.specs.Laws.{ReadingsFollowSorting, TermsKeepAll, ValuesHaveSorts};
+
+/// Sorts for the unknown ones that agree with what is known behind an expression agree with what was known in front of
+/// it; so those that agree with what is known in the end agree with it behind each expression.
+pub fn agreement_goes_back()
+    ensures { AgreementGoesBack }
+{}
+
+/// Where the terms that stand in a setting have values of their sorts, the term of an expression that has a sort has a
+/// value of that sort as it is known in the end, if the fixpoints that the term applies keep sorts there: whatever sorts
+/// stand for the type parameters of the text, and whatever values pass for those of type parameters in these. And the
+/// unknown sorts behind the expression are numbered as they are where it is sorted.
+pub fn readings_follow_sorting()
+    ensures { ReadingsFollowSorting }
+{}
+
+/// Where fixpoints keep sorts at all values, those that a term applies keep sorts there.
+pub fn terms_keep_all()
+    ensures { TermsKeepAll }
+{}
+
+/// Where the terms that stand in a setting have values of their sorts and fixpoints keep sorts, the term of an
+/// expression that has a sort, or passes for a wanted one, has a value of that sort as it is known in the end.
+pub fn values_have_sorts()
+    ensures { ValuesHaveSorts }
+{}

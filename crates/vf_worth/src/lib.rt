@@ -1,0 +1,9 @@
+//! The terms of expressions that have sorts have values of these sorts.
+//!
+//! The definitions stand in `specs/`; the code here is public functions with an empty body, each of
+//! which has a law as its contract.
+#![tactic(auto)]
+
+mod laws;
+
+pub use laws::{agreement_goes_back, readings_follow_sorting, terms_keep_all, values_have_sorts};
