@@ -5,4 +5,5 @@ pub mod Before
 pub mod Naming
 pub mod Operating
 pub mod Reading
+pub mod Telling
 pub mod Values

@@ -4,3 +4,4 @@ pub mod Worth
 pub mod Given
 pub mod Agreement
 pub mod Laws
+pub mod Telling

@@ -2,6 +2,7 @@
 
 ghost use Rattle.vf_worth.specs.Agreement.{AgreementGoesBack};
 ghost use Rattle.vf_worth.specs.Laws.{ReadingsFollowSorting, TermsKeepAll, ValuesHaveSorts};
+ghost use Rattle.vf_worth.specs.Telling.{SortsTellValues};
 
 /// Sorts for the unknown ones that agree with what is known behind an expression agree with what was known in front of
 /// it; so those that agree with what is known in the end agree with it behind each expression.
@@ -26,4 +27,11 @@ pub fn terms_keep_all()
 /// expression that has a sort, or passes for a wanted one, has a value of that sort as it is known in the end.
 pub fn values_have_sorts()
     ensures { ValuesHaveSorts }
+{}
+
+/// The sorts of integers, of truth values, of pointers and of fractions have such values alone, and a datatype terms of
+/// its constructors; sorts that are alike but for what pointers tell have the same values; and `any` has each value that
+/// a sort has.
+pub fn sorts_tell_values()
+    ensures { SortsTellValues }
 {}

@@ -6,4 +6,7 @@
 
 mod laws;
 
-pub use laws::{agreement_goes_back, readings_follow_sorting, terms_keep_all, values_have_sorts};
+pub use laws::{
+    agreement_goes_back, readings_follow_sorting, sorts_tell_values, terms_keep_all,
+    values_have_sorts,
+};
