@@ -7,3 +7,4 @@ pub mod Operating
 pub mod Reading
 pub mod Telling
 pub mod Values
+mod Example

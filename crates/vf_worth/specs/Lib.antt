@@ -5,3 +5,4 @@ pub mod Given
 pub mod Agreement
 pub mod Laws
 pub mod Telling
+pub mod Example

@@ -1,6 +1,7 @@
 //! Laws of the terms of ghost expressions. Each function does nothing; its contract is the law.
 
 ghost use Rattle.vf_worth.specs.Agreement.{AgreementGoesBack};
+ghost use Rattle.vf_worth.specs.Example.{FirstHasItsSort};
 ghost use Rattle.vf_worth.specs.Laws.{ReadingsFollowSorting, TermsKeepAll, ValuesHaveSorts};
 ghost use Rattle.vf_worth.specs.Telling.{SortsTellValues};
 
@@ -34,4 +35,10 @@ pub fn values_have_sorts()
 /// a sort has.
 pub fn sorts_tell_values()
     ensures { SortsTellValues }
+{}
+
+/// Lists over a type parameter with two fixpoints, which keep sorts: `first(cons(1, nil), 2)` has an unknown sort, which
+/// is that of whole numbers in the end, and its value is the number 1, of that sort.
+pub fn first_has_its_sort()
+    ensures { FirstHasItsSort }
 {}

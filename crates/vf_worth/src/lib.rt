@@ -7,6 +7,6 @@
 mod laws;
 
 pub use laws::{
-    agreement_goes_back, readings_follow_sorting, sorts_tell_values, terms_keep_all,
-    values_have_sorts,
+    agreement_goes_back, first_has_its_sort, readings_follow_sorting, sorts_tell_values,
+    terms_keep_all, values_have_sorts,
 };
