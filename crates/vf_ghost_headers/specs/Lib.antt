@@ -1,0 +1,6 @@
+pub mod Meaning
+pub mod Same
+pub mod Own
+pub mod Items
+pub mod Units
+pub mod Example

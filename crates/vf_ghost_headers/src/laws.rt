@@ -1,0 +1,42 @@
+//! The laws: each is the contract of a public function with an empty body.
+
+ghost use Rattle.vf_ghost_headers.specs.Example.{OneGhostHeaderOfTwoUnits};
+ghost use Rattle.vf_ghost_headers.specs.Items.{FormsInsideShowTheSame, GhostsElsewhereAreUnseen};
+ghost use Rattle.vf_ghost_headers.specs.Own.{HeadersSeeTheirOwnGhosts};
+ghost use Rattle.vf_ghost_headers.specs.Units.{HeadersMeanTheSameGhosts, UnitsShowTheSameGhosts};
+
+/// What a header sees of annotations stands in one of the files of which it consists.
+#[tactic(auto, using(crate::proofs::Own::headers_see_their_own_ghosts))]
+pub fn headers_see_their_own_ghosts()
+    ensures { HeadersSeeTheirOwnGhosts }
+{}
+
+/// An item whose names of annotations stand elsewhere, as of each item of C, changes nothing that a header sees of them.
+pub fn ghosts_elsewhere_are_unseen()
+    ensures { GhostsElsewhereAreUnseen }
+{}
+
+/// Where a header shows the same names of annotations in two units, it shows the same behind a form of annotations that
+/// stands in it.
+#[tactic(auto, using(crate::proofs::Inside::forms_inside_show_the_same))]
+pub fn forms_inside_show_the_same()
+    ensures { FormsInsideShowTheSame }
+{}
+
+/// Names of annotations mean the same in a header in every unit in which the same items of annotations stand in it.
+#[tactic(auto, using(crate::proofs::Units::headers_mean_the_same_ghosts))]
+pub fn headers_mean_the_same_ghosts()
+    ensures { HeadersMeanTheSameGhosts }
+{}
+
+/// A header shows the same names of annotations in two whole units in which the same items of annotations stand in it.
+#[tactic(auto, using(crate::proofs::Units::units_show_the_same_ghosts))]
+pub fn units_show_the_same_ghosts()
+    ensures { UnitsShowTheSameGhosts }
+{}
+
+/// One header shows the same names of annotations in two units in which its datatype and its predicate have two numbers.
+#[tactic(auto, using(crate::proofs::Example::one_ghost_header_of_two_units))]
+pub fn one_ghost_header_of_two_units()
+    ensures { OneGhostHeaderOfTwoUnits }
+{}
