@@ -18,3 +18,4 @@ pub mod Elsewhere
 pub mod Inside
 pub mod Units
 pub mod Example
+pub mod Later

@@ -3,7 +3,7 @@ use Rattle.std.proofs.Common.{◌≡◌, refl, sym, ap, ◌∙◌, ℕ, [], List
 use Rattle.vf_declared.specs.declared.scope.Scope.{Scope}
 use Rattle.vf_declared.specs.Scopes.{datatype_of, declaration_of, ghost_of, tag_of}
 use Rattle.vf_walk.specs.Items.{no_locals}
-use Rattle.vf_headers.proofs.Files.{name_unit, OfOneUnit, tag_unit}
+use Rattle.vf_headers.proofs.Files.{name_unit, of_one, of_one_both, OfOneUnit, tag_unit}
 use Rattle.vf_hidden.proofs.Adding.{IsKept}
 
 -- a scope without locals, and without what predicates, lemmas and families are declared with beside their heads
@@ -51,17 +51,33 @@ rest_ghost n h = ap (λ (u : Scope). ghost_of u n) h.is
 pub rest_datatype : {s t : Scope} (n : ℕ) → IsRest s t → datatype_of t n ≡ datatype_of s n
 rest_datatype n h = ap (λ (u : Scope). datatype_of u n) h.is
 
--- ---- tags
--- tags and what they mean stay as they are
+-- ---- tables
+-- what is known of the predicates that stand anywhere in a unit stays as it is
+pub record KeepsPredicates (s t : Scope) : Type 0 where
+  pub unit : OfOneUnit s t
+  pub predicates : t.predicates ≡ s.predicates
+  pub predicate_files : t.predicate_files ≡ s.predicate_files
+
+pub predicates_itself : (s : Scope) → KeepsPredicates s s
+predicates_itself s = record { unit = of_one s; predicates = refl; predicate_files = refl }
+
+pub predicates_both : {s t u : Scope} → KeepsPredicates s t → KeepsPredicates t u → KeepsPredicates s u
+predicates_both h k = record { unit = of_one_both h.unit k.unit; predicates = k.predicates ∙ h.predicates; predicate_files = k.predicate_files ∙ h.predicate_files }
+
+pub rest_predicates : {s t : Scope} → IsRest s t → KeepsPredicates s t
+rest_predicates h = record { unit = rest_unit h; predicates = ap (λ (u : Scope). u.predicates) h.is; predicate_files = ap (λ (u : Scope). u.predicate_files) h.is }
+
+-- tags and what they mean stay as they are, and what is known of predicates
 pub record KeepsTags (s t : Scope) : Type 0 where
   pub tags : t.tags ≡ s.tags
   pub structures : t.structures ≡ s.structures
+  pub foreseen : KeepsPredicates s t
 
 pub tags_itself : (s : Scope) → KeepsTags s s
-tags_itself s = record { tags = refl; structures = refl }
+tags_itself s = record { tags = refl; structures = refl; foreseen = predicates_itself s }
 
 pub tags_both : {s t u : Scope} → KeepsTags s t → KeepsTags t u → KeepsTags s u
-tags_both h k = record { tags = k.tags ∙ h.tags; structures = k.structures ∙ h.structures }
+tags_both h k = record { tags = k.tags ∙ h.tags; structures = k.structures ∙ h.structures; foreseen = predicates_both h.foreseen k.foreseen }
 
 pub rest_tags : {s t : Scope} → IsRest s t → KeepsTags s t
-rest_tags h = record { tags = ap (λ (u : Scope). u.tags) h.is; structures = ap (λ (u : Scope). u.structures) h.is }
+rest_tags h = record { tags = ap (λ (u : Scope). u.tags) h.is; structures = ap (λ (u : Scope). u.structures) h.is; foreseen = rest_predicates h }

@@ -4,3 +4,4 @@ pub mod Own
 pub mod Items
 pub mod Units
 pub mod Example
+pub mod Later

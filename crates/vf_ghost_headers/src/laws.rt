@@ -2,6 +2,7 @@
 
 ghost use Rattle.vf_ghost_headers.specs.Example.{OneGhostHeaderOfTwoUnits};
 ghost use Rattle.vf_ghost_headers.specs.Items.{FormsInsideShowTheSame, GhostsElsewhereAreUnseen};
+ghost use Rattle.vf_ghost_headers.specs.Later.{LaterPredicatesAgree, PredicatesAreForeseen, PredicatesStayForeseen};
 ghost use Rattle.vf_ghost_headers.specs.Own.{HeadersSeeTheirOwnGhosts};
 ghost use Rattle.vf_ghost_headers.specs.Units.{HeadersMeanTheSameGhosts, UnitsShowTheSameGhosts};
 
@@ -39,4 +40,23 @@ pub fn units_show_the_same_ghosts()
 #[tactic(auto, using(crate::proofs::Example::one_ghost_header_of_two_units))]
 pub fn one_ghost_header_of_two_units()
     ensures { OneGhostHeaderOfTwoUnits }
+{}
+
+/// A header in which the same items of annotations stand in two units foresees the same predicates in both.
+#[tactic(auto, using(crate::proofs::Later::predicates_are_foreseen))]
+pub fn predicates_are_foreseen()
+    ensures { PredicatesAreForeseen }
+{}
+
+/// It foresees the same predicates behind any items that are accepted.
+#[tactic(auto, using(crate::proofs::Later::predicates_stay_foreseen))]
+pub fn predicates_stay_foreseen()
+    ensures { PredicatesStayForeseen }
+{}
+
+/// Where a header foresees the same predicates in two units, a name that is declared so far in both or in neither is that
+/// of a predicate that stands later in both or in neither.
+#[tactic(auto, using(crate::proofs::Later::later_predicates_agree))]
+pub fn later_predicates_agree()
+    ensures { LaterPredicatesAgree }
 {}

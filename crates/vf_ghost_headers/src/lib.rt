@@ -3,7 +3,8 @@
 //! A name of annotations that stands in a header means what is declared in that header or in one that it includes.
 //! `specs/Same.antt` has when a header shows the same names of annotations in two units: the numbers by which the units
 //! know datatypes, constructors, fixpoints, predicates and lemmas may differ. `specs/Own.antt` has that a header sees its
-//! own files alone; `specs/Items.antt` and `specs/Units.antt` go on to items and whole units.
+//! own files alone; `specs/Items.antt` and `specs/Units.antt` go on to items and whole units, and `specs/Later.antt` to
+//! predicates that stand later in a unit.
 #![tactic(auto)]
 
 pub mod laws;
