@@ -3,7 +3,7 @@
 use crate::units::{one_file, parsed};
 use std::alloc::Global;
 use std::test::Fail;
-use vf_base::{NumberList, RuleFault};
+use vf_base::{NumberList, RuleFault, Text};
 use vf_env::{Env, describe};
 use vf_resolve::resolve;
 use vf_syntax::item::Unit;
@@ -11,7 +11,9 @@ use vf_syntax::item::Unit;
 /// What a unit declares, each name with its trees.
 fn described(alloc: Global, unit: &Unit) -> Result<Env, RuleFault> {
     let scope = resolve(alloc, one_file(alloc), &unit.items)?;
-    Ok(describe(alloc, scope, &unit.items)?)
+    let mut paths = Vec::new(alloc);
+    paths.push(Text::from_bytes(alloc, b"one.c")?)?;
+    describe(alloc, scope, &paths, &unit.items)
 }
 
 /// What a text declares.
@@ -137,5 +139,18 @@ fn absent(rt: HostRuntime) -> Result<(), Fail> {
     assert!(rt; env.tag_trees_of(b"main".as_slice()).is_none());
     assert_eq!(rt; env.trees.len(), 8);
     assert_eq!(rt; env.tag_trees.len(), 1);
+    Ok(())
+}
+
+/// The fixpoints of a unit, as definitions.
+#[test]
+fn fixpoints(rt: HostRuntime) -> Result<(), Fail> {
+    let env = found(rt.alloc(), ONCE)?;
+    assert_eq!(rt; env.definitions.as_slice().len(), 1);
+    for fixpoint in env.definitions.as_slice() {
+        assert!(rt; fixpoint.identity.as_bytes() == b"one.c#length" && fixpoint.parameters == 1);
+    }
+    let env = found(rt.alloc(), AGAIN)?;
+    assert!(rt; env.definitions.as_slice().is_empty());
     Ok(())
 }

@@ -74,7 +74,7 @@ pub data ItemDefines (s : Scope) (paths : List (List ℕ)) : Item → List defin
   stray_item : {x : Item} {w : Written} → written_in x ≡ Some w → ((n : ℕ) (f : declared.Fixpoint) → IsNumbered s w n f → ⊥) → ItemDefines s paths x []
   fixpoint : {x : Item} {w : Written} {n : ℕ} {f : declared.Fixpoint} {b : Body} → written_in x ≡ Some w → IsNumbered s w n f → Defines (within_fixpoint s w.parameters f.arguments) paths n w.body b → ItemDefines s paths x (map (definition_of s paths w b) (kinds_of_sort f.result))
 
--- the body of a fixpoint is refused, which is never so in a unit that is accepted
+-- the body of a fixpoint is refused, once all names of the unit count
 pub data ItemIsRefused (s : Scope) : Item → Refusal → Type 0 where
   its_body : {x : Item} {w : Written} {n : ℕ} {f : declared.Fixpoint} {r : Refusal} → written_in x ≡ Some w → IsNumbered s w n f → EquationsCome (count (within_fixpoint s w.parameters f.arguments)) n (within_fixpoint s w.parameters f.arguments) w.body (Err r) → ItemIsRefused s x r
 

@@ -94,7 +94,8 @@ fn switch_defined(
 ///
 /// # Errors
 ///
-/// Refused where the body is refused in the unit, which is never so where the unit was accepted.
+/// Refused where the body is refused once all names of the unit count: in a unit that was accepted a name that is
+/// declared behind the fixpoint may do that.
 pub(crate) fn define_body(
     alloc: Global,
     scope: &mut Scope,

@@ -155,18 +155,20 @@ fn item_defined(
 }
 
 /// The fixpoints that the items of a unit declare, as definitions, where all of it is declared. The paths
-/// are those of its files, by their numbers. Locals may be others behind it.
+/// are those of its files, by their numbers. Of what is declared locals alone may be others behind it.
 ///
 /// # Errors
 ///
-/// Refused where the body of a fixpoint is refused in the unit, which is never so where it was accepted.
+/// Refused where the body of a fixpoint is refused once all names of the unit count: in a unit that was accepted a name
+/// that is declared behind the fixpoint may do that.
 pub fn definitions(
     alloc: Global,
     scope: &mut Scope,
     paths: &[Text],
     items: &Sequence<Item>,
 ) -> Result<Definitions, RuleFault>
-    ensures { AreDefined (without_locals scope.old) paths.now items.now result }
+    ensures defined { AreDefined (without_locals scope.old) paths.now items.now result }
+    ensures rest { OnOk result (without_locals scope.new ≡ without_locals scope.old) }
 {
     let mut all = Definitions::new(alloc);
     for at in 0..items.len() {

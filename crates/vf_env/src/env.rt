@@ -1,16 +1,19 @@
 //! What a unit declares, each name with the items that declare it.
 
-ghost use Rattle.std.specs.Prelude.{◌≡◌, List, IfOk};
+ghost use Rattle.std.specs.Prelude.{◌≡◌, List};
 ghost use Rattle.std.specs.Option.{option_copied};
 ghost use Rattle.vf_syntax.specs.declared.item.Item.{Item as ItemTree};
 ghost use Rattle.vf_env.specs.Named.{named, tagged};
-ghost use Rattle.vf_env.specs.Described.{Describes, IsDescribed, declaring_among};
+ghost use Rattle.vf_env.specs.Described.{AreDescribed, IsDescribed, declaring_among};
 
 use crate::trees::{beside_names, beside_tags};
 use std::alloc::Global;
-use vf_base::{Memory, NumberList, Sequence};
+use vf_base::{NumberList, RuleFault, Sequence, Text};
+use vf_declared::locals::Locals;
 use vf_declared::scope::Scope;
 use vf_declared::stack::Stack;
+use vf_defining::definitions;
+use vf_definitions::Definitions;
 use vf_syntax::item::Item;
 
 /// What a unit declares, each name with its trees.
@@ -25,6 +28,8 @@ pub struct Env {
     pub trees: Stack<NumberList>,
     /// For each tag by its number, the items that declare it, in the order of the text.
     pub tag_trees: Stack<NumberList>,
+    /// The fixpoints, as the prover unfolds them.
+    pub definitions: Definitions,
 }
 
 impl Env {
@@ -45,17 +50,34 @@ impl Env {
     }
 }
 
-/// What a unit declares, with the items that declare each name.
+/// What a unit declares, with the items that declare each name and with its fixpoints as definitions of the prover. The
+/// paths are those of its files, by their numbers; locals are forgotten.
 ///
-/// This takes time near the number of the names that the items declare: each is looked up once.
-pub fn describe(alloc: Global, scope: Scope, items: &Sequence<Item>) -> Result<Env, Memory>
-    ensures { IfOk result (Describes scope items.now) }
+/// This takes time near the number of the names that the items declare: each is looked up once; and the time in which the
+/// bodies of fixpoints are sorted.
+///
+/// # Errors
+///
+/// Refused where the body of a fixpoint is refused once all names of the unit count: in a unit that was accepted a name
+/// that is declared behind the fixpoint may do that.
+#[tactic(auto, using(crate::proofs::Describing::refused, crate::proofs::Describing::memory, crate::proofs::Describing::described))]
+pub fn describe(
+    alloc: Global,
+    scope: Scope,
+    paths: &[Text],
+    items: &Sequence<Item>,
+) -> Result<Env, RuleFault>
+    ensures { AreDescribed scope paths.now items.now result }
 {
+    let mut scope = scope;
+    let definitions = definitions(alloc, &mut scope, paths, items)?;
+    scope.locals = Locals::new(alloc);
     let trees = beside_names(alloc, &scope.names, items)?;
     let tag_trees = beside_tags(alloc, &scope.tags, items)?;
     Ok(Env {
         scope,
         trees,
         tag_trees,
+        definitions,
     })
 }

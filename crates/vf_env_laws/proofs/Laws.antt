@@ -96,7 +96,7 @@ has_first declared xs names trees is h x k there =
     record { first = b.first; more = b.more; list = h.lists x k number ∙ ap Some b.whole; whole = b.whole; is_first = b.is_first }
 
 pub each_name_has_trees : EachNameHasTrees
-each_name_has_trees f xs s e h d =
+each_name_has_trees f paths xs s e h d =
     let n = names_are_declared f xs s h in
     record {
       names = λ x k there. has_first named xs e.scope.names e.trees (ap (λ (t : Scope). t.names) d.scope ∙ n.names) d.is.names x k there;
@@ -107,7 +107,7 @@ beside : (declared : Item → List (List ℕ)) (xs : List Item) (names trees : L
 beside declared xs names trees is h = by_places (λ x. declaring declared x xs) names trees h.beside (λ x k there. h.lists x k (stand_once declared xs names is x k there))
 
 pub trees_stand_beside_names : TreesStandBesideNames
-trees_stand_beside_names f xs s e h d =
+trees_stand_beside_names f paths xs s e h d =
     let n = names_are_declared f xs s h in
     record {
       names = beside named xs e.scope.names e.trees (ap (λ (t : Scope). t.names) d.scope ∙ n.names) d.is.names;

@@ -32,7 +32,7 @@ pub record EachHasFirst (xs : List Item) (e : Env) : Type 0 where
 
 -- where an accepted unit is described, each name and each tag has its trees at its number: they are not none, and the first is the first item that declares it
 abbrev pub EachNameHasTrees : Type 0
-EachNameHasTrees = (f : Files) (xs : List Item) (s : Scope) (e : Env) → ItemsCome xs (beginning f xs) (Ok s) → Describes s xs e → EachHasFirst xs e
+EachNameHasTrees = (f : Files) (paths : List (List ℕ)) (xs : List Item) (s : Scope) (e : Env) → ItemsCome xs (beginning f xs) (Ok s) → Describes s paths xs e → EachHasFirst xs e
 
 -- beside the names stand their trees, and beside the tags theirs
 pub record AreBeside (xs : List Item) (e : Env) : Type 0 where
@@ -41,4 +41,4 @@ pub record AreBeside (xs : List Item) (e : Env) : Type 0 where
 
 -- where an accepted unit is described there is one list for each name, beside it: that of the items that declare the name; and the same of tags
 abbrev pub TreesStandBesideNames : Type 0
-TreesStandBesideNames = (f : Files) (xs : List Item) (s : Scope) (e : Env) → ItemsCome xs (beginning f xs) (Ok s) → Describes s xs e → AreBeside xs e
+TreesStandBesideNames = (f : Files) (paths : List (List ℕ)) (xs : List Item) (s : Scope) (e : Env) → ItemsCome xs (beginning f xs) (Ok s) → Describes s paths xs e → AreBeside xs e

@@ -1,12 +1,20 @@
-use Rattle.std.proofs.Common.{rules, ◌≡◌, ◌≤◌, ◌∙◌, length, Err}
+use Rattle.std.proofs.Common.{rules, ◌≡◌, ◌≤◌, ◌∙◌, length, sym, subst, Result, Err}
+use Rattle.std.specs.Prelude.{OnOk}
 use Rattle.vf_defining.specs.Symbols.{without_locals}
 use Rattle.vf_defining.proofs.Adding.{item_fails, item_more, item_passed, items_end}
 use Rattle.vf_defining.proofs.units.definitions.Goals as goal
 
+-- of a result that is an error nothing is owed
+fails_on_ok : {A E : Type 0} (P : Type 0) {r : Result A E} {e : E} → r ≡ Err e → OnOk r P
+fails_on_ok P is = subst (λ r. OnOk r P) (sym is) tt
+
 pub returns-in_err-item_defined : goal.returns-in_err-item_defined
 returns-in_err-item_defined c =
     let e : c.from_residual.result ≡ Err c.in_err-item_defined.field-0.0 = search rules in
-    item_fails (without_locals c.args.scope.now) (without_locals c.loop-at.scope) c.args.paths.now c.args.items.now c.loop-at.at c.in-Some.item.now _ _ _ _ c.in-Some.ensures c.loop-at.invariant.alone c.in_err-item_defined.ensures.added c.loop-at.invariant.fails e
+    record {
+      defined = item_fails (without_locals c.args.scope.now) (without_locals c.loop-at.scope) c.args.paths.now c.args.items.now c.loop-at.at c.in-Some.item.now _ _ _ _ c.in-Some.ensures c.loop-at.invariant.alone c.in_err-item_defined.ensures.added c.loop-at.invariant.fails e;
+      rest = fails_on_ok _ e;
+    }
 
 pub loop-at-preserved : goal.loop-at-preserved
 loop-at-preserved c =
@@ -20,4 +28,7 @@ loop-at-preserved c =
 pub returns : goal.returns
 returns c =
     let m : length c.args.items.now ≤ c.loop-at.at = search rules in
-    items_end (without_locals c.args.scope.now) c.args.paths.now c.args.items.now c.loop-at.at c.loop-at.all m c.loop-at.invariant.on
+    record {
+      defined = items_end (without_locals c.args.scope.now) c.args.paths.now c.args.items.now c.loop-at.at c.loop-at.all m c.loop-at.invariant.on;
+      rest = c.loop-at.invariant.alone;
+    }
