@@ -1,0 +1,17 @@
+pub mod Lists
+pub mod Seeing
+pub mod Naming
+pub mod Names
+pub mod Sorting
+pub mod Equations
+pub mod Extending
+pub mod Seen
+pub mod Parts
+pub mod Statements
+pub mod Functions
+pub mod Parameters
+pub mod Ghosts
+pub mod Lemmas
+pub mod Items
+pub mod Behind
+pub mod Laws
