@@ -15,3 +15,4 @@ pub mod Lemmas
 pub mod Items
 pub mod Behind
 pub mod Laws
+pub mod Expanded

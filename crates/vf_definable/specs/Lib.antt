@@ -1,6 +1,7 @@
 pub mod Naming
 pub mod Preserved
 pub mod Files
+pub mod Expanded
 pub mod UpTo
 pub mod Behind
 pub mod Laws

@@ -6,6 +6,7 @@
 //! empty body.
 #![tactic(auto)]
 
+ghost use Rattle.vf_definable.specs.Expanded.{ExpandedFilesSeeThrough};
 ghost use Rattle.vf_definable.specs.Laws.{AcceptedBodiesStayAccepted, AcceptedUnitsAreDefined, EquationsArePreserved, SortsArePreserved};
 
 /// An expression has its sort also where all that is declared of the names in it is so.
@@ -27,4 +28,9 @@ pub fn accepted_units_are_defined()
 /// And it is never refused there where no names count that are declared behind the fixpoint.
 pub fn accepted_bodies_stay_accepted()
     ensures { AcceptedBodiesStayAccepted }
+{}
+
+/// The files of each unit that was expanded see through each other.
+pub fn expanded_files_see_through()
+    ensures { ExpandedFilesSeeThrough }
 {}
