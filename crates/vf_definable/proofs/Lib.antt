@@ -16,3 +16,4 @@ pub mod Items
 pub mod Behind
 pub mod Laws
 pub mod Expanded
+pub mod Example

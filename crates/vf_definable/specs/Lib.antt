@@ -2,6 +2,7 @@ pub mod Naming
 pub mod Preserved
 pub mod Files
 pub mod Expanded
+pub mod Example
 pub mod UpTo
 pub mod Behind
 pub mod Laws

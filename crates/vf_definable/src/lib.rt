@@ -6,6 +6,7 @@
 //! empty body.
 #![tactic(auto)]
 
+ghost use Rattle.vf_definable.specs.Example.{LaterNamesRefuseBodies};
 ghost use Rattle.vf_definable.specs.Expanded.{ExpandedFilesSeeThrough};
 ghost use Rattle.vf_definable.specs.Laws.{AcceptedBodiesStayAccepted, AcceptedUnitsAreDefined, EquationsArePreserved, SortsArePreserved};
 
@@ -33,4 +34,10 @@ pub fn accepted_bodies_stay_accepted()
 /// The files of each unit that was expanded see through each other.
 pub fn expanded_files_see_through()
     ensures { ExpandedFilesSeeThrough }
+{}
+
+/// Of a unit that is accepted the body of a fixpoint may be refused behind the whole unit, where a name in it is declared
+/// behind the fixpoint.
+pub fn later_names_refuse_bodies()
+    ensures { LaterNamesRefuseBodies }
 {}
