@@ -1,5 +1,6 @@
 -- What is declared in the body of a fixpoint is so behind the whole unit, but for names that are declared behind the fixpoint.
 use Rattle.std.proofs.Common.{◌≡◌, refl, sym, subst, ◌∙◌, ap, ℕ, zero, suc, ◌+◌, ◌≤◌, Bool, true, false, if◌then◌else◌, List, [], ◌∷◌, ◌++◌, length, length-append, take, map, slice_get, is_some, Option, Some, None, arith}
+use Rattle.std.proofs.lemmas.List.{length-map}
 use Rattle.vf_names.specs.Names.{number_of}
 use Rattle.vf_names.proofs.Numbering.{number_of-push}
 use Rattle.vf_declared.specs.declared.declaration.Constructor.{Constructor}
@@ -13,6 +14,7 @@ use Rattle.vf_declared.specs.declared.locals.Local.{Local}
 use Rattle.vf_declared.specs.declared.locals.Locals.{Locals}
 use Rattle.vf_declared.specs.declared.scope.Scope.{Scope}
 use Rattle.vf_declared.specs.Beginning.{no_locals}
+use Rattle.vf_declared.specs.Changes.{IsAligned}
 use Rattle.vf_declared.specs.Scopes.{at_index, at_name, declaration_of, declared_in, ghost_of, is_declared, local_of}
 use Rattle.vf_syntax.specs.declared.item.GhostParameter.{GhostParameter}
 use Rattle.vf_syntax.specs.declared.written.Name.{Name}
@@ -163,6 +165,16 @@ module _ (n : Name) (gs : List GhostParameter) (s u t : Scope) (m : ℕ) (b : Is
       let sorts : map bound_local h.fixpoint.arguments ≡ u.locals.meanings = sym (h.sorts ∙ ap (λ (l : Locals). l.meanings ++ map bound_local h.fixpoint.arguments) b.locals) in
       λ i. record { names = names i; meanings = sorts i }
 
+  -- its locals are its parameters
+  pub own_locals : u.locals.names ≡ map (λ (g : GhostParameter). g.name.text) gs
+  own_locals = h.locals ∙ ap (λ (l : Locals). l.names ++ map (λ (g : GhostParameter). g.name.text) gs) b.locals
+
+  aligned : IsAligned u.locals
+  aligned =
+      let names : length u.locals.names ≡ length gs = ap length own_locals ∙ length-map gs (λ (g : GhostParameter). g.name.text) in
+      let sorts : length u.locals.meanings ≡ length h.fixpoint.arguments = ap length (h.sorts ∙ ap (λ (l : Locals). l.meanings ++ map bound_local h.fixpoint.arguments) b.locals) ∙ length-map h.fixpoint.arguments bound_local in
+      names ∙ (h.as_many ∙ sym sorts)
+
   own_ghosts : u.ghosts ≡ s.ghosts ++ ghosts.Fixpoint h.fixpoint ∷ []
   own_ghosts = ap (λ (c : Core). c.ghosts) h.is
 
@@ -188,6 +200,7 @@ module _ (n : Name) (gs : List GhostParameter) (s u t : Scope) (m : ℕ) (b : Is
   pub shorter_preserves : Preserves Any u shorter
   shorter_preserves = record {
     locals = locals_same;
+    aligned = aligned;
     has_stdlib = stdlib_same;
     names = λ x from a. shorter_means x from;
     predicates = λ x from a. predicates_same u shorter x from frame_same (ap (λ ns. is_some (number_of ns x)) names_up_to);
@@ -200,6 +213,7 @@ module _ (n : Name) (gs : List GhostParameter) (s u t : Scope) (m : ℕ) (b : Is
   pub longer_preserves : Preserves (IsNotBehind t n) u longer
   longer_preserves = record {
     locals = locals_same;
+    aligned = aligned;
     has_stdlib = stdlib_same;
     names = longer_means;
     predicates = λ x from a. predicates_same u longer x from frame_same (longer_declares_by (number_of u.names x) x refl a);

@@ -1,5 +1,6 @@
 -- The body of a fixpoint that is accepted is accepted where what is declared is preserved.
-use Rattle.std.proofs.Common.{◌≡◌, refl, sym, subst, ◌∙◌, ap, ℕ, Bool, true, false, ◌&&◌, ◌||◌, if◌then◌else◌, List, [], ◌∷◌, ◌++◌, length, codes, is_some, map, Option, Some, None, Result, Ok}
+use Rattle.std.proofs.Common.{◌≡◌, refl, sym, subst, ◌∙◌, ap, ℕ, Bool, true, false, ◌&&◌, ◌||◌, if◌then◌else◌, List, [], ◌∷◌, ◌++◌, length, codes, is_some, map, Option, Some, None, Result, Ok, zero, suc, take, arith, append-nil, append_assoc}
+use Rattle.std.proofs.lemmas.List.{length-map}
 use Rattle.std.specs.Str.{bytes_eq}
 use Rattle.vf_base.specs.declared.refusal.Refusal.{Refusal}
 use Rattle.vf_base.specs.declared.rule.Rule.TheVariants as rules
@@ -13,7 +14,7 @@ use Rattle.vf_declared.specs.declared.declaration.GhostDeclaration.TheVariants a
 use Rattle.vf_declared.specs.declared.locals.Local.{Local}
 use Rattle.vf_declared.specs.declared.locals.Locals.{Locals}
 use Rattle.vf_declared.specs.declared.scope.Scope.{Scope}
-use Rattle.vf_declared.specs.Changes.{first_locals}
+use Rattle.vf_declared.specs.Changes.{IsAligned, first_locals}
 use Rattle.vf_declared.specs.Scopes.{datatype_of, declaration_of, ghost_of, local_of}
 use Rattle.vf_syntax.specs.declared.item.FixpointBody.{FixpointBody}
 use Rattle.vf_syntax.specs.declared.item.FixpointCase.{FixpointCase}
@@ -36,6 +37,9 @@ use Rattle.vf_equations.specs.Switching as switching
 use Rattle.vf_equations.specs.Values as values
 use Rattle.vf_definable.specs.Naming.{EachName, EachNameOfBody, EachNameOfCase, EachNameOfCases, EachOf}
 use Rattle.vf_definable.specs.Preserved.{Preserves, PreservesDatatypes}
+use Rattle.vf_hidden.proofs.Binding as binding
+use Rattle.vf_hidden.proofs.Lists.{beside}
+use Rattle.vf_definable.proofs.Lists.{take_front}
 use Rattle.vf_definable.proofs.Names.{local_same}
 use Rattle.vf_definable.proofs.Seeing.{meaning_with, predicates_with, with_locals}
 use Rattle.vf_definable.proofs.Sorting.{value_kept}
@@ -44,9 +48,10 @@ none_some : {A B : Type 0} {a : A} → ◌≡◌ {A = Option A} None (Some a) �
 none_some e = absurd cc
 
 -- ---- other locals
-pub still_preserves : {P : List ℕ → Type 0} {s t : Scope} → Preserves P s t → (l m : Locals) → m ≡ l → Preserves P (with_locals s l) (with_locals t m)
-still_preserves {s = s} {t = t} h l m e = record {
+pub still_preserves : {P : List ℕ → Type 0} {s t : Scope} → Preserves P s t → (l m : Locals) → IsAligned l → m ≡ l → Preserves P (with_locals s l) (with_locals t m)
+still_preserves {s = s} {t = t} h l m a e = record {
   locals = e;
+  aligned = a;
   has_stdlib = h.has_stdlib;
   names = λ x from a. meaning_with t m x from ∙ (h.names x from a ∙ sym (meaning_with s l x from));
   predicates = λ x from a. predicates_with t m x from ∙ (h.predicates x from a ∙ sym (predicates_with s l x from));
@@ -56,14 +61,22 @@ still_preserves {s = s} {t = t} h l m e = record {
 }
 
 -- with more names among the locals
-with_more : {P : List ℕ → Type 0} {s t : Scope} → Preserves P s t → (b : Bound) → Preserves P (with_names s b) (with_names t b)
-with_more {s = s} {t = t} h b =
+with_more : {P : List ℕ → Type 0} {s t : Scope} → Preserves P s t → (b : Bound) → length b.names ≡ length b.sorts → Preserves P (with_names s b) (with_names t b)
+with_more {s = s} {t = t} h b a =
     still_preserves h (record { names = s.locals.names ++ b.names; meanings = s.locals.meanings ++ map bound_local b.sorts }) (record { names = t.locals.names ++ b.names; meanings = t.locals.meanings ++ map bound_local b.sorts })
+    (beside s.locals.names b.names s.locals.meanings (map bound_local b.sorts) h.aligned (a ∙ sym (length-map b.sorts bound_local)))
     (ap (λ (l : Locals). record { names = l.names ++ b.names; meanings = l.meanings ++ map bound_local b.sorts }) h.locals)
+
+first_aligned : {A B : Type 0} (n : ℕ) (xs : List A) (ys : List B) → length xs ≡ length ys → length (take n xs) ≡ length (take n ys)
+first_aligned zero xs ys e = refl
+first_aligned (suc n) [] [] e = refl
+first_aligned (suc n) [] (y ∷ ys) e = absurd (omega (arith, e))
+first_aligned (suc n) (x ∷ xs) [] e = absurd (omega (arith, e))
+first_aligned (suc n) (x ∷ xs) (y ∷ ys) e = ap suc (first_aligned n xs ys (omega (arith, e)))
 
 -- with the first locals alone
 left_of : {P : List ℕ → Type 0} {s t : Scope} → Preserves P s t → (n m : ℕ) → m ≡ n → Preserves P (left n s) (left m t)
-left_of {s = s} {t = t} h n m e = still_preserves h (first_locals s.locals n) (first_locals t.locals m) (λ i. first_locals (h.locals i) (e i))
+left_of {s = s} {t = t} h n m e = still_preserves h (first_locals s.locals n) (first_locals t.locals m) (first_aligned n s.locals.names s.locals.meanings h.aligned) (λ i. first_locals (h.locals i) (e i))
 
 same_count : {P : List ℕ → Type 0} {s t : Scope} → Preserves P s t → count t ≡ count s
 same_count h = ap (λ (l : Locals). length l.names) h.locals
@@ -77,6 +90,11 @@ refusal_same h b n a = λ i.
 names_kept : {P : List ℕ → Type 0} {s t : Scope} → Preserves P s t → {b b' : Bound} {ns : List Name} {ts : List Sort} → EachOf P ns → cases.NamesBind s b ns ts b' → cases.NamesBind t b ns ts b'
 names_kept h p cases.none_bind = cases.none_bind
 names_kept h p (cases.one_binds {b = b} {n = n} e a) = cases.one_binds (refusal_same h b n p.0 ∙ e) (names_kept h p.1 a)
+
+-- the names that are bound are those of the case
+names_bound : {s : Scope} {b b' : Bound} {ns : List Name} {ts : List Sort} → cases.NamesBind s b ns ts b' → b'.names ≡ b.names ++ map (λ (n : Name). n.text) ns
+names_bound (cases.none_bind {b = b}) = sym (append-nil b.names)
+names_bound (cases.one_binds {b = b} {n = n} {ns = ns} e a) = names_bound a ∙ append_assoc b.names (n.text ∷ []) (map (λ (n : Name). n.text) ns)
 
 -- ---- what cases are for
 -- a case is for something that annotations declare
@@ -123,9 +141,9 @@ number_kept {s = s} {t = t} h d x p f =
     ∙ (ap (λ g. if takes d m g then Some f.number else None) (h.annotations f.number f.declaration f.is ∙ sym f.is)
     ∙ sym (ap (taking s d m) f.meant)))
 
-constructors_kept : {P : List ℕ → Type 0} {s t : Scope} → Preserves P s t → (d : ℕ) (cs : List FixpointCase) → EachNameOfCases P cs → AreFor s cs → are_constructors t d cs ≡ are_constructors s d cs
-constructors_kept h d [] p f = refl
-constructors_kept h d (x ∷ xs) p f = λ i. is_some (number_kept h d x p.0.constructor f.0 i) && constructors_kept h d xs p.1 f.1 i
+constructors_kept : {P : List ℕ → Type 0} {s t : Scope} → Preserves P s t → (d : ℕ) (ls : List (List ℕ)) (cs : List FixpointCase) → EachNameOfCases P ls cs → AreFor s cs → are_constructors t d cs ≡ are_constructors s d cs
+constructors_kept h d ls [] p f = refl
+constructors_kept h d ls (x ∷ xs) p f = λ i. is_some (number_kept h d x p.0.constructor f.0 i) && constructors_kept h d ls xs p.1 f.1 i
 
 arguments_kept : {P : List ℕ → Type 0} {s t : Scope} → Preserves P s t → (x : FixpointCase) → P x.pattern.constructor.text → IsFor s x → case_arguments t x.pattern ≡ case_arguments s x.pattern
 arguments_kept {s = s} {t = t} h x p f =
@@ -140,15 +158,15 @@ record AreGiven (c : Context) (u : Sort) (m : ℕ) (t : Scope) (k : Known) (cs :
   scope : Scope
   given : values.CasesGive c u m t k cs scope k'
 
-case_kept : {P : List ℕ → Type 0} {s t : Scope} → Preserves P s t → {c : Context} {u : Sort} {m : ℕ} {k k' : Known} {x : FixpointCase} {b : Bound} → EachNameOfCase P x → IsFor s x → cases.NamesBind s (record { names = []; sorts = [] }) (names_or_none x.pattern.names) (case_sorts s 0 m x.pattern) b → values.ValuePasses (with_names s b) c u k x.value k' → values.CaseGives c u m t k x (left (count t) (with_names t b)) k'
-case_kept {s = s} {t = t} h {m = m} {x = x} {b = b} p f n v =
-    values.a_case (subst (λ ts. cases.NamesBind t (record { names = []; sorts = [] }) (names_or_none x.pattern.names) ts b) (sym (ap (map (instance 0 m)) (arguments_kept h x p.constructor f))) (names_kept h p.arguments n)) (value_kept (with_more h b) p.value v)
+case_kept : {P : List ℕ → Type 0} {s t : Scope} → Preserves P s t → {c : Context} {u : Sort} {m : ℕ} {k k' : Known} {x : FixpointCase} {b : Bound} → EachNameOfCase P s.locals.names x → IsFor s x → cases.NamesBind s (record { names = []; sorts = [] }) (names_or_none x.pattern.names) (case_sorts s 0 m x.pattern) b → values.ValuePasses (with_names s b) c u k x.value k' → values.CaseGives c u m t k x (left (count t) (with_names t b)) k'
+case_kept {P = P} {s = s} {t = t} h {m = m} {x = x} {b = b} p f n v =
+    values.a_case (subst (λ ts. cases.NamesBind t (record { names = []; sorts = [] }) (names_or_none x.pattern.names) ts b) (sym (ap (map (instance 0 m)) (arguments_kept h x p.constructor f))) (names_kept h p.arguments n)) (value_kept (with_more h b (binding.names n refl)) (subst (λ ns. EachName P (s.locals.names ++ ns) x.value) (sym (names_bound n)) p.value) v)
 
-cases_kept : {P : List ℕ → Type 0} {c : Context} {u : Sort} {m : ℕ} {s t : Scope} → Preserves P s t → {k k' : Known} {cs : List FixpointCase} {s' : Scope} → EachNameOfCases P cs → AreFor s cs → values.CasesGive c u m s k cs s' k' → AreGiven c u m t k cs s' k'
+cases_kept : {P : List ℕ → Type 0} {c : Context} {u : Sort} {m : ℕ} {s t : Scope} → Preserves P s t → {k k' : Known} {cs : List FixpointCase} {s' : Scope} → EachNameOfCases P s.locals.names cs → AreFor s cs → values.CasesGive c u m s k cs s' k' → AreGiven c u m t k cs s' k'
 cases_kept {t = t} h p f values.no_cases = record { scope = t; given = values.no_cases }
-cases_kept {s = s} {t = t} h p f (values.more_cases (values.a_case {x = x} {b = b} n v) a) =
+cases_kept {P = P} {s = s} {t = t} h p f (values.more_cases {xs = xs} (values.a_case {x = x} {b = b} n v) a) =
     let one = case_kept h p.0 f.0 n v in
-    let more = cases_kept (left_of (with_more h b) (count s) (count t) (same_count h)) p.1 (for_with s (first_locals (with_names s b).locals (count s)) _ f.1) a in
+    let more = cases_kept (left_of (with_more h b (binding.names n refl)) (count s) (count t) (same_count h)) (subst (λ ns. EachNameOfCases P ns xs) (sym (take_front s.locals.names b.names)) p.1) (for_with s (first_locals (with_names s b).locals (count s)) _ f.1) a in
     record { scope = more.scope; given = values.more_cases one more.given }
 
 -- ---- what is switched over
@@ -163,7 +181,7 @@ datatype_same h n (Some l) u d e f i = h.same n.text l d e (ap datatype_in (is f
     is : ◌≡◌ {A = Result Sort Refusal} (Ok (sort_of_local l)) (Ok u) → sort_of_local l ≡ u
     is e = cc
 
-switches_kept : {P : List ℕ → Type 0} {s t : Scope} → Preserves P s t → PreservesDatatypes s t → {n : Name} {cs : List FixpointCase} {p : ℕ} {k : Known} → EachNameOfCases P cs → switching.Switches s n cs p k → switching.Switches t n cs p k × AreFor s cs
+switches_kept : {P : List ℕ → Type 0} {s t : Scope} → Preserves P s t → PreservesDatatypes s t → {n : Name} {cs : List FixpointCase} {p : ℕ} {k : Known} → EachNameOfCases P s.locals.names cs → switching.Switches s n cs p k → switching.Switches t n cs p k × AreFor s cs
 switches_kept {s = s} {t = t} h j {n = n} {cs = cs} y (switching.switches {k = k} {t = u} {d = d} e b i a q) =
     let f = are_for s d cs a in
     let same = datatype_same j n (local_of s n.text) u d refl e i in
@@ -171,16 +189,16 @@ switches_kept {s = s} {t = t} h j {n = n} {cs = cs} y (switching.switches {k = k
     let unknown : unknown_datatype t 0 d ≡ unknown_datatype s 0 d = ap (λ m. instance 0 m (datatype_sort d m)) many in
     let sorted : switched_sort t n ≡ Ok u = ap (sort_in t n) (local_same h n.text) ∙ sort_kept s t n (local_of s n.text) u e in
     let equal : Equates (with_fresh [] (parameters_of t d)) u (unknown_datatype t 0 d) k = subst (λ m. Equates (with_fresh [] m) u (instance 0 m (datatype_sort d m)) k) (sym many) q in
-    (subst (λ m. switching.Switches t n cs m k) many (switching.switches sorted b i (constructors_kept h d cs y f ∙ a) equal), f)
+    (subst (λ m. switching.Switches t n cs m k) many (switching.switches sorted b i (constructors_kept h d s.locals.names cs y f ∙ a) equal), f)
 
 -- ---- whole bodies
 result_kept : {P : List ℕ → Type 0} {s t : Scope} → Preserves P s t → (n : ℕ) (f : Fixpoint) → ghost_of s n ≡ Some (ghosts.Fixpoint f) → result_of t n ≡ result_of s n
 result_kept h n f e = ap result_in (h.annotations n (ghosts.Fixpoint f) e ∙ sym e)
 
-value_comes : {P : List ℕ → Type 0} {s t : Scope} → Preserves P s t → (n : ℕ) (f : Fixpoint) → ghost_of s n ≡ Some (ghosts.Fixpoint f) → {k k' : Known} {e : GhostExprTree} → EachName P e → values.ValuePasses s (around_fixpoint n) (result_of s n) k e k' → values.ValuePasses t (around_fixpoint n) (result_of t n) k e k'
+value_comes : {P : List ℕ → Type 0} {s t : Scope} → Preserves P s t → (n : ℕ) (f : Fixpoint) → ghost_of s n ≡ Some (ghosts.Fixpoint f) → {k k' : Known} {e : GhostExprTree} → EachName P s.locals.names e → values.ValuePasses s (around_fixpoint n) (result_of s n) k e k' → values.ValuePasses t (around_fixpoint n) (result_of t n) k e k'
 value_comes {t = t} h n f g {k = k} {k' = k'} {e = e} y v = subst (λ u. values.ValuePasses t (around_fixpoint n) u k e k') (sym (result_kept h n f g)) (value_kept h y v)
 
-pub equations_kept : {P : List ℕ → Type 0} {s t : Scope} → Preserves P s t → PreservesDatatypes s t → (l m n : ℕ) (f : Fixpoint) → ghost_of s n ≡ Some (ghosts.Fixpoint f) → (b : FixpointBody) (u : Scope) → EachNameOfBody P b → fixpoints.EquationsCome l n s b (Ok u) → (v : Scope) × fixpoints.EquationsCome m n t b (Ok v)
+pub equations_kept : {P : List ℕ → Type 0} {s t : Scope} → Preserves P s t → PreservesDatatypes s t → (l m n : ℕ) (f : Fixpoint) → ghost_of s n ≡ Some (ghosts.Fixpoint f) → (b : FixpointBody) (u : Scope) → EachNameOfBody P s.locals.names b → fixpoints.EquationsCome l n s b (Ok u) → (v : Scope) × fixpoints.EquationsCome m n t b (Ok v)
 equations_kept {t = t} h j l m n f g b u y (fixpoints.value v) = (left m t, fixpoints.value (value_comes h n f g y v))
 equations_kept {s = s} {t = t} h j l m n f g b u y (fixpoints.cases {cs = cs} {p = p} {k = k} {k' = k'} w a) =
     let r = switches_kept h j y w in

@@ -211,6 +211,7 @@ pub record IsHead (n : Name) (gs : List GhostParameter) (s t : Scope) : Type 0 w
   pub is : core t ≡ record { frame = bare s; names = s.names ++ n.text ∷ []; declarations = s.declarations ++ (record { meaning = meanings.Ghost (length s.ghosts); files = n.place.file ∷ [] }) ∷ []; ghosts = s.ghosts ++ ghosts.Fixpoint fixpoint ∷ []; datatypes = s.datatypes }
   pub locals : t.locals.names ≡ s.locals.names ++ map (λ (g : GhostParameter). g.name.text) gs
   pub sorts : t.locals.meanings ≡ s.locals.meanings ++ map bound_local fixpoint.arguments
+  pub as_many : length gs ≡ length fixpoint.arguments
   pub known : AreKnown s.ghosts fixpoint.arguments
   pub grows : (m : ℕ) → Grows m s t
 
@@ -231,6 +232,7 @@ head_of n gs s m t k e h =
       is = λ i. record { frame = (h.keeps.same i).frame; names = (h.keeps.same i).names; declarations = (h.keeps.same i).declarations; ghosts = (h.keeps.same i).ghosts ++ ghosts.Fixpoint f ∷ []; datatypes = (h.keeps.same i).datatypes };
       locals = h.names;
       sorts = h.meanings ∙ ap (λ ts. s.locals.meanings ++ map bound_local ts) (sym h.sorts);
+      as_many = h.as_many ∙ ap length (sym h.sorts);
       known = subst (AreKnown s.ghosts) (sym h.sorts) h.known;
       grows = λ m. grows_both (grows_before (next_grows m s n) h.keeps) (grows_ghost m k.scope (ghosts.Fixpoint f) tt);
     }

@@ -1,5 +1,5 @@
 -- The bodies of fixpoints of an accepted unit are accepted where more is declared.
-use Rattle.std.proofs.Common.{◌≡◌, refl, sym, subst, ◌∙◌, ap, ℕ, ◌+◌, ◌≤◌, List, [], ◌∷◌, length, length-append, Option, Some, None, Result, Ok, Err, arith}
+use Rattle.std.proofs.Common.{◌≡◌, refl, sym, subst, ◌∙◌, ap, ℕ, ◌+◌, ◌≤◌, List, [], ◌∷◌, length, length-append, Option, Some, None, Result, Ok, Err, arith, map}
 use Rattle.vf_base.specs.declared.refusal.Refusal.{Refusal}
 use Rattle.vf_declared.specs.declared.declaration.Fixpoint.{Fixpoint}
 use Rattle.vf_declared.specs.declared.declaration.GhostDeclaration.TheVariants as ghosts
@@ -35,7 +35,7 @@ use Rattle.vf_definable.specs.Laws.{AcceptedBodiesStayAccepted, AcceptedUnitsAre
 use Rattle.vf_definable.specs.Naming.{EachNameOfBody}
 use Rattle.vf_definable.specs.UpTo.{AnyIsRefusedThere, IsRefusedThere, up_to}
 use Rattle.vf_definable.specs.UpTo as refusals
-use Rattle.vf_definable.proofs.Behind.{IsBetween, is_itself, longer_datatypes, longer_preserves, own_ghost, shorter_datatypes, shorter_preserves}
+use Rattle.vf_definable.proofs.Behind.{IsBetween, is_itself, longer_datatypes, longer_preserves, own_ghost, own_locals, shorter_datatypes, shorter_preserves}
 use Rattle.vf_definable.proofs.Equations.{equations_kept}
 use Rattle.vf_definable.proofs.Extending.{AreOf, Grows, are_both, are_wider, grows_behind, grows_both, grows_kept, grows_wider, keeps_same, sees_kept}
 use Rattle.vf_definable.proofs.Ghosts.{IsHead, equations_clear, fixpoint_head}
@@ -89,7 +89,7 @@ Refused gs c r t k f = EquationsCome (count (within_fixpoint t gs f.arguments)) 
 -- it is refused neither with the names that are declared up to it nor with all names, as long as none in it is declared behind it
 record StaysAt (n : Name) (gs : List GhostParameter) (c : FixpointBody) (t : Scope) (k : ℕ) (f : Fixpoint) : Type 0 where
   shorter : (r : Refusal) → Refused gs c r (up_to n t) k f → ⊥
-  longer : (r : Refusal) → EachNameOfBody (IsNotBehind t n) c → Refused gs c r t k f → ⊥
+  longer : (r : Refusal) → EachNameOfBody (IsNotBehind t n) (map (λ (g : GhostParameter). g.name.text) gs) c → Refused gs c r t k f → ⊥
 
 body_stays : (n : Name) (gs : List GhostParameter) (c : FixpointBody) (s u v t : Scope) (m : ℕ) → IsBetween s → IsHead n gs s u → EquationsCome (count s) (length s.ghosts) u c (Ok v) → Grows m u t → (k : ℕ) (f : Fixpoint) → declaration_of t n.text n.place.file ≡ Some (names.Ghost k) → ghost_of t k ≡ Some (ghosts.Fixpoint f) → StaysAt n gs c t k f
 body_stays n gs c s u v t m b h e g k f i j =
@@ -104,8 +104,8 @@ body_stays n gs c s u v t m b h e g k f i j =
 
     it : StaysAt n gs c t (length s.ghosts) h.fixpoint
     it = record {
-      shorter = λ r a. not_both (equations_come (equations_kept (shorter_preserves n gs s u t m b h g) (shorter_datatypes n gs s u t m b h g) (count s) (count up) (length s.ghosts) h.fixpoint (own_ghost n gs s u t m b h g) c v (any_of_body c) e).1) (equations_come a);
-      longer = λ r y a. not_both (equations_come (equations_kept (longer_preserves n gs s u t m b h g) (longer_datatypes n gs s u t m b h g) (count s) (count all) (length s.ghosts) h.fixpoint (own_ghost n gs s u t m b h g) c v y e).1) (equations_come a);
+      shorter = λ r a. not_both (equations_come (equations_kept (shorter_preserves n gs s u t m b h g) (shorter_datatypes n gs s u t m b h g) (count s) (count up) (length s.ghosts) h.fixpoint (own_ghost n gs s u t m b h g) c v (any_of_body u.locals.names c) e).1) (equations_come a);
+      longer = λ r y a. not_both (equations_come (equations_kept (longer_preserves n gs s u t m b h g) (longer_datatypes n gs s u t m b h g) (count s) (count all) (length s.ghosts) h.fixpoint (own_ghost n gs s u t m b h g) c v (subst (λ ns. EachNameOfBody (IsNotBehind t n) ns c) (sym (own_locals n gs s u t m b h g)) y) e).1) (equations_come a);
     }
 
 -- what a fixpoint leads to: its body is not refused behind the whole unit

@@ -1,9 +1,10 @@
 -- Names mean the same in front of arguments and as values where what is declared is preserved.
-use Rattle.std.proofs.Common.{◌≡◌, refl, ◌∙◌, ap, ℕ, Bool, true, false, ◌&&◌, if◌then◌else◌, nat_eq, List, [], ◌∷◌, drop, codes, Option, Some, None, Result, Ok, Err}
+use Rattle.std.proofs.Common.{◌≡◌, refl, ◌∙◌, ap, ℕ, Bool, true, false, ◌&&◌, if◌then◌else◌, nat_eq, List, [], ◌∷◌, drop, codes, Option, Some, None, Result, Ok, Err, zero, suc, ◌≤◌, length, slice_get, is_some, arith}
 use Rattle.std.specs.List.{starts_with}
 use Rattle.vf_base.specs.declared.place.Place.{Place}
 use Rattle.vf_base.specs.declared.refusal.Refusal.{Refusal}
 use Rattle.vf_base.specs.declared.rule.Rule.TheVariants as rules
+use Rattle.vf_names.specs.Names.{number_of}
 use Rattle.vf_sorts.specs.Sorts.{Sort}
 use Rattle.vf_sorts.specs.Unknowns.{Known}
 use Rattle.vf_declared.specs.declared.declaration.Constructor.{Constructor}
@@ -12,13 +13,16 @@ use Rattle.vf_declared.specs.declared.declaration.GhostDeclaration.TheVariants a
 use Rattle.vf_declared.specs.declared.declaration.Meaning.{Meaning}
 use Rattle.vf_declared.specs.declared.declaration.Meaning.TheVariants as meanings
 use Rattle.vf_declared.specs.declared.locals.Local.{Local}
+use Rattle.vf_declared.specs.declared.locals.Locals.{Locals}
 use Rattle.vf_declared.specs.declared.scope.Scope.{Scope}
-use Rattle.vf_declared.specs.Scopes.{datatype_of, declaration_of, ghost_of, is_later_predicate, local_in, local_of}
+use Rattle.vf_declared.specs.Changes.{IsAligned}
+use Rattle.vf_declared.specs.Scopes.{datatype_of, declaration_of, ghost_of, is_later_predicate, local_in, local_of, at_index}
 use Rattle.vf_sorting.specs.declared.scheme.Scheme.{Scheme}
 use Rattle.vf_sorting.specs.Kinds.{datatype_sort}
 use Rattle.vf_sorting.specs.Refusals.{refused}
 use Rattle.vf_sorting.specs.Schemes.{applied_ghost, applied_scheme, applied_test, application_scheme, constant_scheme, constructor_scheme, count_in, declared_scheme, ghost_scheme, is_function_type, is_predicate_local, later_scheme, local_scheme, name_scheme, names_predicate, test_scheme, tests_type}
 use Rattle.vf_definable.specs.Preserved.{Preserves}
+use Rattle.vf_definable.proofs.Lists.{number_below}
 
 -- what is no scheme
 none_given : {A : Type 0} {x : Refusal} {g : Scheme} → ◌≡◌ {A = Result Scheme Refusal} (Err x) (Ok g) → A
@@ -49,16 +53,30 @@ declared_kept h p x a (Some (meanings.Function n)) g e = e
 declared_kept h p x a (Some (meanings.FunctionType n)) g e = none_given e
 declared_kept {s = s} h p x a (Some (meanings.Ghost n)) g e = ghost_kept h p n (ghost_of s n) g refl e
 
-local_kept : {P : List ℕ → Type 0} {s t : Scope} → Preserves P s t → (p : Place) (x : List ℕ) → P x → (o : Option Local) (g : Scheme) → local_scheme s p x o ≡ Ok g → local_scheme t p x o ≡ Ok g
-local_kept {s = s} {t = t} h p x a None g e = ap (declared_scheme t p x) (h.names x p.file a) ∙ declared_kept h p x a (declaration_of s x p.file) g e
-local_kept h p x a (Some l) g e = e
+local_kept : {P : List ℕ → Type 0} {s t : Scope} → Preserves P s t → (p : Place) (x : List ℕ) (o : Option Local) → (o ≡ None → P x) → (g : Scheme) → local_scheme s p x o ≡ Ok g → local_scheme t p x o ≡ Ok g
+local_kept {s = s} {t = t} h p x None a g e = ap (declared_scheme t p x) (h.names x p.file (a refl)) ∙ declared_kept h p x (a refl) (declaration_of s x p.file) g e
+local_kept h p x (Some l) a g e = e
 
 pub local_same : {P : List ℕ → Type 0} {s t : Scope} → Preserves P s t → (x : List ℕ) → local_of t x ≡ local_of s x
 local_same h x = ap (λ l. local_in l x) h.locals
 
+nothing_beside : {A B : Type 0} (xs : List A) (ys : List B) (k : ℕ) → length xs ≡ length ys → suc k ≤ length xs → slice_get ys k ≡ None → ⊥
+nothing_beside [] ys k e l f = omega (arith, l)
+nothing_beside (x ∷ xs) [] k e l f = omega (arith, e)
+nothing_beside (x ∷ xs) (y ∷ ys) zero e l f = cc
+nothing_beside (x ∷ xs) (y ∷ ys) (suc k) e l f = nothing_beside xs ys k (omega (arith, e)) (omega (arith, l)) f
+
+unnamed_by : (l : Locals) (x : List ℕ) → IsAligned l → (o : Option ℕ) → number_of l.names x ≡ o → at_index l.meanings o ≡ None → is_some o ≡ false
+unnamed_by l x a None e f = refl
+unnamed_by l x a (Some k) e f = absurd (nothing_beside l.names l.meanings k a (number_below l.names x k e) f)
+
+-- where a name is that of no local it is none of their names
+unnamed : (l : Locals) (x : List ℕ) → IsAligned l → local_in l x ≡ None → is_some (number_of l.names x) ≡ false
+unnamed l x a e = unnamed_by l x a (number_of l.names x) refl e
+
 -- a name is the same as a value
-pub name_kept : {P : List ℕ → Type 0} {s t : Scope} → Preserves P s t → (p : Place) (x : List ℕ) → P x → (g : Scheme) → name_scheme s p x ≡ Ok g → name_scheme t p x ≡ Ok g
-name_kept {s = s} {t = t} h p x a g e = ap (local_scheme t p x) (local_same h x) ∙ local_kept h p x a (local_of s x) g e
+pub name_kept : {P : List ℕ → Type 0} {s t : Scope} → Preserves P s t → (p : Place) (x : List ℕ) → (is_some (number_of s.locals.names x) ≡ false → P x) → (g : Scheme) → name_scheme s p x ≡ Ok g → name_scheme t p x ≡ Ok g
+name_kept {s = s} {t = t} h p x a g e = ap (local_scheme t p x) (local_same h x) ∙ local_kept h p x (local_of s x) (λ n. a (unnamed s.locals x h.aligned n)) g e
 
 -- ---- in front of arguments
 applied_ghost_kept : {P : List ℕ → Type 0} {s t : Scope} → Preserves P s t → (own : Option ℕ) (p : Place) (n : ℕ) (o : Option GhostDeclaration) (g : Scheme) → ghost_of s n ≡ o → applied_ghost s own p n o ≡ Ok g → applied_ghost t own p n (ghost_of t n) ≡ Ok g

@@ -14,40 +14,40 @@ abbrev pub Any : List ℕ → Type 0
 Any x = Unit {0}
 
 mutual
-  any_name : (e : GhostExprTree) → EachName Any e
-  any_name (tree.number p n i) = tt
-  any_name (tree.true_ p) = tt
-  any_name (tree.false_ p) = tt
-  any_name (tree.result p) = tt
-  any_name (tree.this_ p) = tt
-  any_name (tree.current_thread p) = tt
-  any_name (tree.name_ p x) = tt
-  any_name (tree.application p f xs) = (tt, any_of_all xs)
-  any_name (tree.parenthesized p a) = any_name a
-  any_name (tree.conditional p a b d) = (any_name a, (any_name b, any_name d))
-  any_name (tree.unary p o a) = any_name a
-  any_name (tree.chain p l a xs) = (any_name a, any_of_links xs)
+  any_name : (ls : List (List ℕ)) (e : GhostExprTree) → EachName Any ls e
+  any_name ls (tree.number p n i) = tt
+  any_name ls (tree.true_ p) = tt
+  any_name ls (tree.false_ p) = tt
+  any_name ls (tree.result p) = tt
+  any_name ls (tree.this_ p) = tt
+  any_name ls (tree.current_thread p) = tt
+  any_name ls (tree.name_ p x) = λ e. tt
+  any_name ls (tree.application p f xs) = (tt, any_of_all ls xs)
+  any_name ls (tree.parenthesized p a) = any_name ls a
+  any_name ls (tree.conditional p a b d) = (any_name ls a, (any_name ls b, any_name ls d))
+  any_name ls (tree.unary p o a) = any_name ls a
+  any_name ls (tree.chain p l a xs) = (any_name ls a, any_of_links ls xs)
 
-  any_of_all : (xs : GhostExprTrees) → EachNameOfAll Any xs
-  any_of_all no_ghost_expr = tt
-  any_of_all (more_ghost_expr x xs) = (any_name x, any_of_all xs)
+  any_of_all : (ls : List (List ℕ)) (xs : GhostExprTrees) → EachNameOfAll Any ls xs
+  any_of_all ls no_ghost_expr = tt
+  any_of_all ls (more_ghost_expr x xs) = (any_name ls x, any_of_all ls xs)
 
-  any_of_link : (x : GhostLinkTree) → EachNameOfLink Any x
-  any_of_link (tree.ghost_link p o a) = any_name a
+  any_of_link : (ls : List (List ℕ)) (x : GhostLinkTree) → EachNameOfLink Any ls x
+  any_of_link ls (tree.ghost_link p o a) = any_name ls a
 
-  any_of_links : (xs : GhostLinkTrees) → EachNameOfLinks Any xs
-  any_of_links no_ghost_link = tt
-  any_of_links (more_ghost_link x xs) = (any_of_link x, any_of_links xs)
+  any_of_links : (ls : List (List ℕ)) (xs : GhostLinkTrees) → EachNameOfLinks Any ls xs
+  any_of_links ls no_ghost_link = tt
+  any_of_links ls (more_ghost_link x xs) = (any_of_link ls x, any_of_links ls xs)
 
 any_of : (ns : List Name) → EachOf Any ns
 any_of [] = tt
 any_of (n ∷ ns) = (tt, any_of ns)
 
-any_of_cases : (cs : List FixpointCase) → EachNameOfCases Any cs
-any_of_cases [] = tt
-any_of_cases (x ∷ cs) = (record { constructor = tt; arguments = any_of (names_or_none x.pattern.names); value = any_name x.value }, any_of_cases cs)
+any_of_cases : (ls : List (List ℕ)) (cs : List FixpointCase) → EachNameOfCases Any ls cs
+any_of_cases ls [] = tt
+any_of_cases ls (x ∷ cs) = (record { constructor = tt; arguments = any_of (names_or_none x.pattern.names); value = any_name _ x.value }, any_of_cases ls cs)
 
 -- in the body of a fixpoint too
-pub any_of_body : (b : FixpointBody) → EachNameOfBody Any b
-any_of_body (bodies.Value e) = any_name e
-any_of_body (bodies.Switch x cs) = any_of_cases cs
+pub any_of_body : (ls : List (List ℕ)) (b : FixpointBody) → EachNameOfBody Any ls b
+any_of_body ls (bodies.Value e) = any_name ls e
+any_of_body ls (bodies.Switch x cs) = any_of_cases ls cs

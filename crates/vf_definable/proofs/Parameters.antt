@@ -119,6 +119,7 @@ record OneTaken (g : GhostParameter) (k l : Taken) : Type 0 where
 pub record AreTaken (gs : List GhostParameter) (k l : Taken) : Type 0 where
   pub more : List Sort
   pub sorts : l.sorts ≡ k.sorts ++ more
+  pub as_many : length gs ≡ length more
   pub names : l.scope.locals.names ≡ k.scope.locals.names ++ map (λ (g : GhostParameter). g.name.text) gs
   pub meanings : l.scope.locals.meanings ≡ k.scope.locals.meanings ++ map bound_local more
   pub known : AreKnown k.scope.ghosts more
@@ -130,7 +131,7 @@ one_taken ps g k =
     (λ t h. unless_comes (OneTaken g k) (local_refusal k.scope g.name) (Ok (with_parameter g.name t k)) (ok_comes (OneTaken g k) (record { of = t; is = refl; known = h })))
 
 none_more : (k : Taken) → AreTaken [] k k
-none_more k = record { more = []; sorts = sym (append-nil k.sorts); names = sym (append-nil k.scope.locals.names); meanings = sym (append-nil k.scope.locals.meanings); known = tt; keeps = keeps_same k.scope }
+none_more k = record { more = []; sorts = sym (append-nil k.sorts); as_many = refl; names = sym (append-nil k.scope.locals.names); meanings = sym (append-nil k.scope.locals.meanings); known = tt; keeps = keeps_same k.scope }
 
 one_more : {g : GhostParameter} {gs : List GhostParameter} {k l m : Taken} → OneTaken g k l → AreTaken gs l m → AreTaken (g ∷ gs) k m
 one_more {g = g} {gs = gs} {k = k} {m = m} h j =
@@ -138,6 +139,7 @@ one_more {g = g} {gs = gs} {k = k} {m = m} h j =
     record {
       more = h.of ∷ r.more;
       sorts = r.sorts ∙ append_assoc k.sorts (h.of ∷ []) r.more;
+      as_many = ap suc r.as_many;
       names = r.names ∙ append_assoc k.scope.locals.names (g.name.text ∷ []) (map (λ (g : GhostParameter). g.name.text) gs);
       meanings = r.meanings ∙ append_assoc k.scope.locals.meanings (bound_local h.of ∷ []) (map bound_local r.more);
       known = (h.known, r.known);

@@ -1,7 +1,8 @@
 -- Names that are declared behind others.
-use Rattle.std.specs.Prelude.{◌≡◌, ◌≤◌, ℕ, List, [], ◌∷◌, Some}
+use Rattle.std.specs.Prelude.{◌≡◌, ◌≤◌, ℕ, List, [], ◌∷◌, map, Some}
 use Rattle.vf_names.specs.Names.{number_of}
 use Rattle.vf_declared.specs.declared.scope.Scope.{Scope}
+use Rattle.vf_syntax.specs.declared.item.GhostParameter.{GhostParameter}
 use Rattle.vf_syntax.specs.declared.item.Item.{Item}
 use Rattle.vf_syntax.specs.declared.written.Name.{Name}
 use Rattle.vf_defining.specs.Units.{Written, written_in}
@@ -11,7 +12,7 @@ use Rattle.vf_definable.specs.Naming.{EachNameOfBody}
 abbrev pub IsNotBehind : Scope → Name → List ℕ → Type 0
 IsNotBehind s n x = (j k : ℕ) → number_of s.names x ≡ Some j → number_of s.names n.text ≡ Some k → j ≤ k
 
--- no name in the body of a fixpoint among items is declared behind the fixpoint
+-- no name in the body of a fixpoint among items is declared behind the fixpoint, but for those of locals as values
 abbrev pub NoneIsBehind : Scope → List Item → Type 0
 NoneIsBehind s [] = Unit {0}
-NoneIsBehind s (x ∷ xs) = ((w : Written) → written_in x ≡ Some w → EachNameOfBody (IsNotBehind s w.name) w.body) × NoneIsBehind s xs
+NoneIsBehind s (x ∷ xs) = ((w : Written) → written_in x ≡ Some w → EachNameOfBody (IsNotBehind s w.name) (map (λ (g : GhostParameter). g.name.text) w.parameters) w.body) × NoneIsBehind s xs

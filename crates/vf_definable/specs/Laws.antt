@@ -31,13 +31,13 @@ IsAmong ns x = is_some (number_of ns x) ≡ true
 
 -- an expression has the sort that it has also where all that is declared of some names is so, among which those in it are
 abbrev pub SortsArePreserved : Type 0
-SortsArePreserved = (ns : List (List ℕ)) (s t : Scope) (c : Context) (k k' : Known) (e : GhostExprTree) (u : Sort) → Preserves (IsAmong ns) s t → EachName (IsAmong ns) e → HasSort s c k e u k' → HasSort t c k e u k'
+SortsArePreserved = (ns : List (List ℕ)) (s t : Scope) (c : Context) (k k' : Known) (e : GhostExprTree) (u : Sort) → Preserves (IsAmong ns) s t → EachName (IsAmong ns) s.locals.names e → HasSort s c k e u k' → HasSort t c k e u k'
 
 -- the body of a fixpoint that is accepted is accepted also where all that is declared of some names is so, among which those in it are, however many locals are left behind it
 abbrev pub EquationsArePreserved : Type 0
-EquationsArePreserved = (ns : List (List ℕ)) (s t u : Scope) (l m n : ℕ) (f : Fixpoint) (b : FixpointBody) → Preserves (IsAmong ns) s t → PreservesDatatypes s t → ghost_of s n ≡ Some (ghosts.Fixpoint f) → EachNameOfBody (IsAmong ns) b → EquationsCome l n s b (Ok u) → (v : Scope) × EquationsCome m n t b (Ok v)
+EquationsArePreserved = (ns : List (List ℕ)) (s t u : Scope) (l m n : ℕ) (f : Fixpoint) (b : FixpointBody) → Preserves (IsAmong ns) s t → PreservesDatatypes s t → ghost_of s n ≡ Some (ghosts.Fixpoint f) → EachNameOfBody (IsAmong ns) s.locals.names b → EquationsCome l n s b (Ok u) → (v : Scope) × EquationsCome m n t b (Ok v)
 
--- where files see through each other, the body of no fixpoint of an accepted unit is refused behind the whole unit, as long as no name in it is declared behind the fixpoint
+-- where files see through each other, the body of no fixpoint of an accepted unit is refused behind the whole unit, as long as no name in it is declared behind the fixpoint, but for those of locals as values
 abbrev pub AcceptedUnitsAreDefined : Type 0
 AcceptedUnitsAreDefined = (f : Files) (xs : List Item) (s : Scope) (r : Refusal) → SeesThrough (beginning f xs) → ItemsCome xs (beginning f xs) (Ok s) → NoneIsBehind s xs → AnyIsRefused (without_locals s) xs r → ⊥
 

@@ -6,13 +6,15 @@ use Rattle.vf_declared.specs.declared.declaration.GhostDeclaration.TheVariants a
 use Rattle.vf_declared.specs.declared.declaration.Meaning.TheVariants as meanings
 use Rattle.vf_declared.specs.declared.locals.Local.{Local}
 use Rattle.vf_declared.specs.declared.scope.Scope.{Scope}
+use Rattle.vf_declared.specs.Changes.{IsAligned}
 use Rattle.vf_declared.specs.Scopes.{datatype_of, declaration_of, ghost_of, later_predicate, local_of}
 use Rattle.vf_sorting.specs.Schemes.{sort_of_local}
 use Rattle.vf_asserting.specs.Cases.{datatype_in}
 
--- The second scope has the locals of the first. Each name that is such means the same in both from every file, as a predicate that stands later too. A function type of the first is one in the second; and what annotations declare by a number in the first they declare by it in the second, where the constructors in it are of the same datatypes
+-- The second scope has the locals of the first, each beside its name. Each name that is such means the same in both from every file, as a predicate that stands later too. A function type of the first is one in the second; and what annotations declare by a number in the first they declare by it in the second, where the constructors in it are of the same datatypes
 pub record Preserves (P : List ℕ → Type 0) (s t : Scope) : Type 0 where
   pub locals : t.locals ≡ s.locals
+  pub aligned : IsAligned s.locals
   pub has_stdlib : t.has_stdlib ≡ s.has_stdlib
   pub names : (x : List ℕ) (from : ℕ) → P x → declaration_of t x from ≡ declaration_of s x from
   pub predicates : (x : List ℕ) (from : ℕ) → P x → later_predicate t x from ≡ later_predicate s x from
