@@ -30,10 +30,11 @@ abbrev mutual
   EachNameOfAll P ls no_ghost_expr = Unit {0}
   EachNameOfAll P ls (more_ghost_expr x xs) = EachName P ls x × EachNameOfAll P ls xs
 
-  -- and in the operand behind an operator
+  -- so it is in the operand behind an operator
   pub EachNameOfLink : (List ℕ → Type 0) → List (List ℕ) → GhostLinkTree → Type 0
   EachNameOfLink P ls (tree.ghost_link p o a) = EachName P ls a
 
+  -- and in operators and operands one after the other
   pub EachNameOfLinks : (List ℕ → Type 0) → List (List ℕ) → GhostLinkTrees → Type 0
   EachNameOfLinks P ls no_ghost_link = Unit {0}
   EachNameOfLinks P ls (more_ghost_link x xs) = EachNameOfLink P ls x × EachNameOfLinks P ls xs
@@ -49,6 +50,7 @@ pub record EachNameOfCase (P : List ℕ → Type 0) (ls : List (List ℕ)) (x : 
   pub arguments : EachOf P (names_or_none x.pattern.names)
   pub value : EachName P (ls ++ map (λ (n : Name). n.text) (names_or_none x.pattern.names)) x.value
 
+-- so it is in cases one after the other
 abbrev pub EachNameOfCases : (List ℕ → Type 0) → List (List ℕ) → List FixpointCase → Type 0
 EachNameOfCases P ls [] = Unit {0}
 EachNameOfCases P ls (x ∷ xs) = EachNameOfCase P ls x × EachNameOfCases P ls xs

@@ -11,7 +11,7 @@ use Rattle.vf_declared.specs.Scopes.{datatype_of, declaration_of, ghost_of, late
 use Rattle.vf_sorting.specs.Schemes.{sort_of_local}
 use Rattle.vf_asserting.specs.Cases.{datatype_in}
 
--- The second scope has the locals of the first, each beside its name. Each name that is such means the same in both from every file, as a predicate that stands later too. A function type of the first is one in the second; and what annotations declare by a number in the first they declare by it in the second, where the constructors in it are of the same datatypes
+-- the second scope has the locals of the first, each beside its name; each name that is such means the same in both from every file, as a predicate that stands later too; a function type of the first is one in the second; and what annotations declare by a number in the first they declare by it in the second, where the constructors in it are of the same datatypes
 pub record Preserves (P : List ℕ → Type 0) (s t : Scope) : Type 0 where
   pub locals : t.locals ≡ s.locals
   pub aligned : IsAligned s.locals
