@@ -1,0 +1,9 @@
+//! The fixpoints of a unit keep sorts.
+//!
+//! The definitions stand in `specs/`; the code here is public functions with an empty body, each of
+//! which has a law as its contract.
+#![tactic(auto)]
+
+mod laws;
+
+pub use laws::{equating_resolves, passing_resolves, passing_settles, sorts_are_placed_alike};
