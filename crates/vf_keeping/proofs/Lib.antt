@@ -1,2 +1,9 @@
 pub mod Closed
 pub mod Resolved
+pub mod Numbering
+pub mod Symbols
+pub mod Cases
+pub mod Arguments
+pub mod Patterns
+pub mod Bodies
+pub mod Recursion

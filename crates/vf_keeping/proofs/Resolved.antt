@@ -32,7 +32,7 @@ length_put [] u a = refl
 length_put (x ∷ xs) zero a = refl
 length_put (x ∷ xs) (suc u) a = ap suc (length_put xs u a)
 
-length_mapped : {A B : Type 0} (f : A → B) (xs : List A) → length (map f xs) ≡ length xs
+pub length_mapped : {A B : Type 0} (f : A → B) (xs : List A) → length (map f xs) ≡ length xs
 length_mapped f [] = refl
 length_mapped f (x ∷ xs) = ap suc (length_mapped f xs)
 
@@ -130,7 +130,7 @@ pub equating_resolves : EquatingResolves
 equating_resolves k k' t u r a b e = made_resolved (weight k (pair_of t u ∷ [])) k k' (pair_of t u ∷ []) r ((a, b), tt) e.made
 
 -- ---- unknown sorts that are added
-fresh_resolved : (k : Known) (n : ℕ) → IsResolved k → IsResolved (with_fresh k n)
+pub fresh_resolved : (k : Known) (n : ℕ) → IsResolved k → IsResolved (with_fresh k n)
 fresh_resolved k zero r = subst IsResolved (sym (append-nil k)) r
 fresh_resolved k (suc n) r = resolved_more (with_fresh k n) (with_fresh k (suc n)) (ap (with_fresh k) (let q : suc n ≡ n + 1 = omega arith in q) ∙ sym (fresh_more k n)) (fresh_resolved k n r)
 

@@ -60,7 +60,8 @@ pub record IsDefinedBy (s : Scope) (paths : List (List ℕ)) (x : declaration.Fi
   pub parameters : List GhostParameter
   pub text : FixpointBody
   pub stands : ghost_of s number ≡ Some (ghosts.Fixpoint x)
-  pub known_sorts : Each (IsBelow 0) x.arguments
+  pub known_result : IsBelow 0 x.result
+  pub known_arguments : Each (IsBelow 0) x.arguments
   pub long : length parameters ≡ length x.arguments
   pub defines : Defines (within_fixpoint s parameters x.arguments) paths number text body
   pub each_case : HasEachCase (declared_at s paths) x.arguments body

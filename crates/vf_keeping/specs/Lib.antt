@@ -1,2 +1,4 @@
 pub mod Closed
 pub mod Resolved
+pub mod Bodies
+pub mod Recursion

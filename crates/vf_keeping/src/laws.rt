@@ -1,6 +1,8 @@
 //! Laws of fixpoints. Each function does nothing; its contract is the law.
 
+ghost use Rattle.vf_keeping.specs.Bodies.{BodiesGiveSorts};
 ghost use Rattle.vf_keeping.specs.Closed.{PlacedAlike};
+ghost use Rattle.vf_keeping.specs.Recursion.{BodiesKeepSorts};
 ghost use Rattle.vf_keeping.specs.Resolved.{EquatingResolves, PassingResolves, PassingSettles};
 
 /// Sorts that are alike in place of the type parameters make alike sorts of one that has no others, and no unknown
@@ -23,4 +25,17 @@ pub fn passing_resolves()
 /// Behind such an expression the sorts that are settled in the end agree with what is known.
 pub fn passing_settles()
     ensures { PassingSettles }
+{}
+
+/// At values of its arguments' sorts a fixpoint that has the values of its body has, as its kind has it, a value of its
+/// result's sort, where the fixpoints that the body applies keep sorts there: the body returns an expression, or has
+/// one for each constructor of the datatype of an argument.
+pub fn bodies_give_sorts()
+    ensures { BodiesGiveSorts }
+{}
+
+/// Fixpoints that have the values of their bodies keep sorts, where each application in a body is of an earlier fixpoint,
+/// or of the same to a component of what the body switches over.
+pub fn bodies_keep_sorts()
+    ensures { BodiesKeepSorts }
 {}

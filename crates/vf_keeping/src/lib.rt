@@ -6,4 +6,7 @@
 
 mod laws;
 
-pub use laws::{equating_resolves, passing_resolves, passing_settles, sorts_are_placed_alike};
+pub use laws::{
+    bodies_give_sorts, bodies_keep_sorts, equating_resolves, passing_resolves, passing_settles,
+    sorts_are_placed_alike,
+};
