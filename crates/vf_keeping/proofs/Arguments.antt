@@ -1,5 +1,5 @@
 -- Values of the sorts of a list, one by one.
-use Rattle.std.proofs.Common.{◌≡◌, ℕ, zero, suc, List, [], ◌∷◌, ◌++◌, length, map, Option, Some, None, refl, sym, subst, ap, ◌∙◌}
+use Rattle.std.proofs.Common.{◌≡◌, ℕ, zero, suc, List, [], ◌∷◌, ◌++◌, length, map, Some, refl, subst, ap}
 use Rattle.std.specs.Prelude.{slice_get}
 use Rattle.vf_model.specs.Values.{Values, none, more}
 use Rattle.vf_meaning.specs.Valuations.{appended, value_at}

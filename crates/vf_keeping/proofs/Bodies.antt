@@ -1,8 +1,7 @@
 -- The body of a fixpoint has a value of its sort, where the fixpoints that it applies keep sorts.
-use Rattle.std.proofs.Common.{◌≡◌, ℕ, zero, suc, ◌+◌, ◌<◌, Bool, true, false, List, [], ◌∷◌, ◌++◌, length, map, Option, Some, None, Result, Ok, Err, refl, sym, subst, ap, ap₂, ◌∙◌, arith}
+use Rattle.std.proofs.Common.{◌≡◌, ℕ, zero, suc, ◌+◌, ◌<◌, true, List, [], ◌∷◌, ◌++◌, length, map, Option, Some, None, Ok, refl, sym, subst, ap, ap₂, ◌∙◌, arith}
 use Rattle.std.specs.Prelude.{is_some, slice_get}
 use Rattle.std.proofs.lemmas.List.{length-append}
-use Rattle.vf_base.specs.declared.refusal.Refusal.{Refusal}
 use Rattle.vf_tree.specs.Core.{Identity}
 use Rattle.vf_names.specs.Names.{number_of}
 use Rattle.vf_model.specs.Values.{Value, Values}
@@ -22,7 +21,6 @@ use Rattle.vf_sorts.proofs.Settling.{settling_agrees}
 use Rattle.vf_syntax.specs.declared.item.FixpointBody.{FixpointBody}
 use Rattle.vf_syntax.specs.declared.item.FixpointCase.{FixpointCase}
 use Rattle.vf_syntax.specs.declared.item.GhostParameter.{GhostParameter}
-use Rattle.vf_syntax.specs.declared.pattern.CasePattern.{CasePattern}
 use Rattle.vf_syntax.specs.declared.written.Name.{Name}
 use Rattle.vf_syntax.specs.GhostExprTree.{GhostExprTree}
 use Rattle.vf_declared.specs.declared.declaration.Constructor.{Constructor}
@@ -42,7 +40,7 @@ use Rattle.vf_asserting.specs.Cases.{datatype_in, names_or_none}
 use Rattle.vf_asserting.specs.Switches.{case_sorts, parameters_of, unknown_datatype}
 use Rattle.vf_binding.specs.Bound.{bound_local}
 use Rattle.vf_equations.specs.Fixpoints.{around_fixpoint, result_in, result_of}
-use Rattle.vf_equations.specs.Switching.{Switches, sort_in, switches, are_constructors}
+use Rattle.vf_equations.specs.Switching.{sort_in, switches, are_constructors}
 use Rattle.vf_equations.specs.Values.{CasesGive, ValuePasses, passes}
 use Rattle.vf_terms.specs.Settings.{Setting, kind_of_sort}
 use Rattle.vf_definitions.specs.Laws.{MeetsBody}
@@ -52,13 +50,13 @@ use Rattle.vf_definitions.specs.declared.fixpoint.Body.{Body}
 use Rattle.vf_definitions.specs.declared.fixpoint.Body.TheVariants as bodies
 use Rattle.vf_definitions.specs.declared.fixpoint.Fixpoint as definitions
 use Rattle.vf_defining.specs.Symbols.{value_read, with_symbols}
-use Rattle.vf_defining.specs.Bodies.{case_of, cases_of, identity_at, place_among, place_or_first, within_case}
+use Rattle.vf_defining.specs.Bodies.{case_of, cases_of, place_among, place_or_first, within_case}
 use Rattle.vf_defining.specs.Fixpoints.{Defines}
 use Rattle.vf_defining.specs.Fixpoints as defined
 use Rattle.vf_defining.specs.Units.{within_fixpoint}
 use Rattle.vf_worth.specs.Instances.{Instance, all_placed, placed, settled_at}
 use Rattle.vf_worth.specs.Declares.{BuildsTerms, Declared, Declares, constructed}
-use Rattle.vf_worth.specs.Worth.{HasOwn, HasValue, HaveValues, Sets, passing}
+use Rattle.vf_worth.specs.Worth.{HasValue, HaveValues, Sets, passing}
 use Rattle.vf_worth.specs.Given.{TermKeepsSorts}
 use Rattle.vf_worth.specs.Telling.{IsTermOf}
 use Rattle.vf_worth.proofs.Alike.{heads_alike}
@@ -68,7 +66,7 @@ use Rattle.vf_worth.proofs.Placing.{fresh_at, instance_used, unknown_at}
 use Rattle.vf_worth.proofs.Telling.{sorts_tell}
 use Rattle.vf_worth.proofs.Values.{readings_follow_in_sets}
 use Rattle.vf_keeping.specs.Closed.{Each, IsClosed}
-use Rattle.vf_keeping.specs.Bodies.{BodiesGiveSorts, BodyKeepsSorts, GivesItsSort, HasEachCase, IsDefinedBy, IsWellDeclared, declared_at}
+use Rattle.vf_keeping.specs.Bodies.{BodiesGiveSorts, BodyKeepsSorts, GivesItsSort, HasEachCase, IsWellDeclared, declared_at}
 use Rattle.vf_keeping.proofs.Closed.{closed_alike, datatypes_alike, filled_same, placed_same}
 use Rattle.vf_keeping.proofs.Resolved.{equating_resolves, fresh_resolved, length_mapped, passing_settles}
 use Rattle.vf_keeping.proofs.Symbols.{gives_symbols}

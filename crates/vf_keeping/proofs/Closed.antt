@@ -1,10 +1,9 @@
 -- What stands for unknown sorts and type parameters does not matter in a sort that has none of them.
-use Rattle.std.proofs.Common.{◌≡◌, ℕ, zero, suc, ◌+◌, ◌<◌, List, [], ◌∷◌, ◌++◌, ◌⊎◌, inl, inr, None, refl, sym, subst, ap, ap₂, ◌∙◌, ⊎_elim, arith}
+use Rattle.std.proofs.Common.{◌≡◌, ℕ, zero, suc, ◌<◌, List, [], ◌∷◌, ◌++◌, ◌⊎◌, inl, inr, None, refl, sym, subst, ap, ap₂, ⊎_elim, arith}
 use Rattle.std.proofs.Math.Decide.{ℕ_discrete}
-use Rattle.vf_sorts.specs.declared.sort.Head.{Head}
 use Rattle.vf_sorts.specs.declared.sort.Head.TheVariants as heads
 use Rattle.vf_sorts.specs.Sorts.{Sort, Sorts, sort, no_sorts, and_sort, row}
-use Rattle.vf_sorts.specs.Told.{AreAlike, untold, untold_all}
+use Rattle.vf_sorts.specs.Told.{AreAlike, untold_all}
 use Rattle.vf_sorts.specs.Unknowns.{EachUnknownOf, Filling, IsBelow, filled, filled_all, leaf}
 use Rattle.vf_sorting.specs.Kinds.{datatype_sort, parameter_sorts}
 use Rattle.vf_worth.specs.Instances.{Instance, placed, all_placed}

@@ -7,3 +7,4 @@ pub mod Arguments
 pub mod Patterns
 pub mod Bodies
 pub mod Recursion
+pub mod Units

@@ -1,10 +1,8 @@
 -- What the constructor of a case is: a constructor of the datatype, which is declared by the identity that the case has.
-use Rattle.std.proofs.Common.{◌≡◌, ℕ, Bool, true, false, List, length, Option, Some, None, refl, sym, subst, ap, ◌∙◌}
-use Rattle.std.specs.Prelude.{◌&&◌, if◌then◌else◌, is_some, map, nat_eq}
+use Rattle.std.proofs.Common.{◌≡◌, ℕ, Bool, true, false, List, length, Option, Some, None, refl, ap, ◌∙◌}
+use Rattle.std.specs.Prelude.{if◌then◌else◌, is_some, nat_eq}
 use Rattle.std.proofs.lemmas.Bool.Decides.{nat_tests}
 use Rattle.std.proofs.Common.{arith}
-use Rattle.vf_sorts.specs.Sorts.{Sort}
-use Rattle.vf_sorts.specs.Unknowns.{instance}
 use Rattle.vf_syntax.specs.declared.pattern.CasePattern.{CasePattern}
 use Rattle.vf_declared.specs.declared.declaration.Constructor.{Constructor}
 use Rattle.vf_declared.specs.declared.declaration.Declaration.{Declaration}

@@ -1,27 +1,24 @@
 -- Fixpoints keep sorts, by induction on their order and on the size of what they switch over.
-use Rattle.std.proofs.Common.{◌≡◌, ◌⊎◌, inl, inr, ℕ, zero, suc, ◌+◌, ◌<◌, ◌≤◌, List, length, map, Option, Some, None, refl, sym, subst, ap, ◌∙◌, ⊎_elim, arith}
+use Rattle.std.proofs.Common.{◌≡◌, ℕ, zero, suc, ◌<◌, ◌≤◌, List, length, map, Option, Some, None, sym, subst, ap, ◌∙◌, ⊎_elim, arith}
 use Rattle.vf_tree.specs.Core.{Identity}
 use Rattle.vf_model.specs.Values.{Value, Values, none, more}
-use Rattle.vf_model.specs.Values as values
-use Rattle.vf_meaning.specs.Ghost.{Name, Numbered, Result, This, CurrentThread}
+use Rattle.vf_meaning.specs.Ghost.{Numbered, Result, This, CurrentThread}
 use Rattle.vf_meaning.specs.Valuations.{Valuation, value_at, appended, of_arguments, size, sizes}
 use Rattle.vf_meaning.specs.Valuations as valuations
 use Rattle.vf_meaning.specs.GhostValues.{Interpretation}
 use Rattle.vf_closure.specs.Terms.{Kind, Integer, Other, Head, Symbol, Number, Truth, Null, Function, Constructor, Fixpoint, Claims, Predicate, Share, Sum, Plus, Arithmetic, Compare, Not, And, Or, Choose, PointerSum, Term, Terms, term, no_terms, and_term}
 use Rattle.vf_closure.specs.Values.{all_values, of_kind, value}
-use Rattle.vf_sorts.specs.Unknowns.{Filling}
 use Rattle.vf_declared.specs.declared.declaration.Fixpoint as declaration
 use Rattle.vf_declared.specs.declared.declaration.GhostDeclaration.TheVariants as ghosts
 use Rattle.vf_declared.specs.declared.scope.Scope.{Scope}
 use Rattle.vf_terms.specs.Settings.{kind_of_sort}
-use Rattle.vf_definitions.specs.Unfolded.{case_for, term_at}
-use Rattle.vf_definitions.specs.declared.fixpoint.Case.{Case}
+use Rattle.vf_definitions.specs.Unfolded.{term_at}
 use Rattle.vf_definitions.specs.declared.fixpoint.Body.{Body}
 use Rattle.vf_definitions.specs.declared.fixpoint.Body.TheVariants.{Returns, Switches}
-use Rattle.vf_worth.specs.Instances.{Instance, placed}
+use Rattle.vf_worth.specs.Instances.{placed}
 use Rattle.vf_worth.specs.Declares.{Declared, Declares}
 use Rattle.vf_worth.specs.Worth.{HasValue, HaveValues, Sets, passing}
-use Rattle.vf_worth.specs.Given.{FixpointsKeepSorts, HeadKeepsSorts, KeepsSortsAt, TermKeepsSorts, TermsKeepSorts}
+use Rattle.vf_worth.specs.Given.{HeadKeepsSorts, KeepsSortsAt, TermKeepsSorts, TermsKeepSorts}
 use Rattle.vf_keeping.specs.Bodies.{BodyKeepsSorts, IsWellDeclared, declared_at}
 use Rattle.vf_keeping.specs.Recursion.{BodiesKeepSorts, BodyGoesDown, EachIsKept, GivesKinds, GoesDownBy, IsComponent, IsKept, IsSymbolBehind, KeptIn, PassesComponent, Ranks, TermGoesDown, TermsGoDown}
 use Rattle.vf_keeping.proofs.Arguments.{have_count}

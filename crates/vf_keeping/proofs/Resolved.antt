@@ -1,6 +1,6 @@
 -- What is known of unknown sorts stays resolved where sorts are made equal, and behind expressions.
 use Rattle.std.proofs.Common.{◌≡◌, ℕ, zero, suc, ◌+◌, ◌<◌, ◌≤◌, Bool, true, false, List, [], ◌∷◌, ◌++◌, length, Option, Some, None, refl, sym, subst, ap, ◌∙◌, arith, append-nil}
-use Rattle.std.specs.Prelude.{◌&&◌, nat_eq, if◌then◌else◌, map, replicate, slice_get, slice_set}
+use Rattle.std.specs.Prelude.{◌&&◌, nat_eq, if◌then◌else◌, map, slice_get, slice_set}
 use Rattle.std.specs.Option.{option_map}
 use Rattle.vf_base.specs.declared.place.Place.{Place}
 use Rattle.vf_sorts.specs.declared.pair.Pair.{Pair}
@@ -8,8 +8,8 @@ use Rattle.vf_sorts.specs.declared.sort.Head.{Head}
 use Rattle.vf_sorts.specs.declared.sort.Head.TheVariants as heads
 use Rattle.vf_sorts.specs.Sorts.{Sort, Sorts, sort, no_sorts, and_sort, row}
 use Rattle.vf_sorts.specs.Pairs.{AreBelow, head_of, paired, weight}
-use Rattle.vf_sorts.specs.Unknowns.{EachUnknown, EachUnknownOf, IsBelow, IsOpen, IsResolved, Known, by_known, filled, instance, is_in, only, settling, with_known}
-use Rattle.vf_sorts.specs.Unifying.{Equates, Left, are_heads_alike, beside, by_unknown, first_made, is_numbered, listed, made_within, pair_of, parts_of, then_made, unknown_of, with_parts, with_sort}
+use Rattle.vf_sorts.specs.Unknowns.{EachUnknown, EachUnknownOf, IsBelow, IsOpen, IsResolved, Known, by_known, filled, instance, is_in, only, with_known}
+use Rattle.vf_sorts.specs.Unifying.{Equates, Left, are_heads_alike, beside, by_unknown, first_made, is_numbered, listed, made_within, pair_of, then_made, unknown_of, with_parts, with_sort}
 use Rattle.vf_sorts.proofs.Learning.{open_below, resolved_more, resolved_open, resolved_with}
 use Rattle.vf_sorts.proofs.Making.{below_append}
 use Rattle.vf_sorts.proofs.Settling.{settling_agrees}

@@ -1,5 +1,5 @@
 -- Locals that stand for arguments have values of their sorts.
-use Rattle.std.proofs.Common.{◌≡◌, ℕ, zero, suc, ◌+◌, List, [], ◌∷◌, Some, refl, sym, subst, ap, arith}
+use Rattle.std.proofs.Common.{◌≡◌, ℕ, zero, suc, ◌+◌, List, [], ◌∷◌, Some, sym, subst, ap, arith}
 use Rattle.std.specs.Prelude.{map, slice_get}
 use Rattle.vf_model.specs.Values.{Values, none, more}
 use Rattle.vf_meaning.specs.Valuations.{value_at, of_arguments}

@@ -1,9 +1,9 @@
 -- When the body of a fixpoint has a value of its sort, and what is needed of declarations for it.
-use Rattle.std.specs.Prelude.{◌≡◌, ℕ, Bool, true, List, length, map, Some, is_some, slice_get}
+use Rattle.std.specs.Prelude.{◌≡◌, ℕ, true, List, length, map, Some, is_some, slice_get}
 use Rattle.vf_tree.specs.Core.{Identity}
 use Rattle.vf_model.specs.Values.{Values}
 use Rattle.vf_model.specs.Values as values
-use Rattle.vf_meaning.specs.Valuations.{value_at, count, appended, of_arguments}
+use Rattle.vf_meaning.specs.Valuations.{value_at, appended, of_arguments}
 use Rattle.vf_meaning.specs.GhostValues.{Interpretation}
 use Rattle.vf_closure.specs.Values.{of_kind}
 use Rattle.vf_formula.specs.Heads.{shown_kind}

@@ -2,3 +2,4 @@ pub mod Closed
 pub mod Resolved
 pub mod Bodies
 pub mod Recursion
+pub mod Units

@@ -7,7 +7,7 @@ use Rattle.vf_sorts.specs.Unknowns.{AgreesAsTold, IsBelow, IsResolved, Known, se
 use Rattle.vf_syntax.specs.GhostExprTree.{GhostExprTree}
 use Rattle.vf_declared.specs.declared.scope.Scope.{Scope}
 use Rattle.vf_sorting.specs.declared.context.Context.{Context}
-use Rattle.vf_sorting.specs.HasSort.{HasSort, Passes}
+use Rattle.vf_sorting.specs.HasSort.{Passes}
 
 -- where sorts are made equal whose unknown sorts have numbers, what is known stays resolved
 abbrev pub EquatingResolves : Type 0

@@ -4,6 +4,7 @@ ghost use Rattle.vf_keeping.specs.Bodies.{BodiesGiveSorts};
 ghost use Rattle.vf_keeping.specs.Closed.{PlacedAlike};
 ghost use Rattle.vf_keeping.specs.Recursion.{BodiesKeepSorts};
 ghost use Rattle.vf_keeping.specs.Resolved.{EquatingResolves, PassingResolves, PassingSettles};
+ghost use Rattle.vf_keeping.specs.Units.{UnitsKeepSorts};
 
 /// Sorts that are alike in place of the type parameters make alike sorts of one that has no others, and no unknown
 /// sorts.
@@ -38,4 +39,10 @@ pub fn bodies_give_sorts()
 /// or of the same to a component of what the body switches over.
 pub fn bodies_keep_sorts()
     ensures { BodiesKeepSorts }
+{}
+
+/// Where an interpretation gives the definitions of the items of a unit the values of their bodies, the fixpoints that
+/// the unit declares keep sorts.
+pub fn units_keep_sorts()
+    ensures { UnitsKeepSorts }
 {}

@@ -8,5 +8,5 @@ mod laws;
 
 pub use laws::{
     bodies_give_sorts, bodies_keep_sorts, equating_resolves, passing_resolves, passing_settles,
-    sorts_are_placed_alike,
+    sorts_are_placed_alike, units_keep_sorts,
 };

@@ -1,0 +1,146 @@
+-- The fixpoints of a unit keep sorts.
+use Rattle.std.proofs.Common.{◌≡◌, ℕ, zero, suc, ◌<◌, List, [], ◌∷◌, ◌++◌, length, map, Some, None, refl, sym, subst, ap, ◌∙◌, arith}
+use Rattle.std.specs.Prelude.{Contains}
+use Rattle.vf_tree.specs.Core.{Identity}
+use Rattle.vf_meaning.specs.GhostValues.{Interpretation}
+use Rattle.vf_formula.specs.Heads.{shown_kind}
+use Rattle.vf_formula.specs.declared.head.Kind.{Kind}
+use Rattle.vf_formula.specs.declared.head.Kind.TheVariants as kinds
+use Rattle.vf_sorts.specs.declared.sort.Head.TheVariants as heads
+use Rattle.vf_sorts.specs.Sorts.{Sort, sort}
+use Rattle.vf_syntax.specs.declared.item.Item.{Item}
+use Rattle.vf_declared.specs.declared.declaration.Fixpoint as declaration
+use Rattle.vf_declared.specs.declared.declaration.GhostDeclaration.TheVariants as ghosts
+use Rattle.vf_declared.specs.declared.declaration.Meaning.TheVariants as meanings
+use Rattle.vf_declared.specs.declared.scope.Scope.{Scope}
+use Rattle.vf_declared.specs.Scopes.{declaration_of, ghost_of}
+use Rattle.vf_terms.specs.Settings.{kind_of_sort}
+use Rattle.vf_definitions.specs.Laws.{MeetsDefinitions}
+use Rattle.vf_definitions.specs.declared.fixpoint.Body.{Body}
+use Rattle.vf_definitions.specs.declared.fixpoint.Fixpoint as definitions
+use Rattle.vf_defining.specs.Fixpoints.{Defines}
+use Rattle.vf_defining.specs.Units.{HaveDefinitions, no_items, more_items, IsNumbered, ItemDefines, other_item, stray_item, fixpoint, Written, definition_of, kinds_of_sort, within_fixpoint, written_in}
+use Rattle.vf_worth.specs.Declares.{Declares}
+use Rattle.vf_worth.specs.Worth.{Sets, passing}
+use Rattle.vf_keeping.specs.Bodies.{IsWellDeclared, declared_at}
+use Rattle.vf_keeping.specs.Recursion.{BodyGoesDown, IsKept, Ranks}
+use Rattle.vf_keeping.specs.Units.{EachIsWritten, GoDown, HaveEachCase, IsWritten, UnitKeepsIn, UnitsKeepSorts}
+use Rattle.vf_keeping.proofs.Recursion.{kept_in}
+
+-- ---- lists
+in_first : {A : Type 0} (xs ys : List A) (a : A) → Contains xs a → Contains (xs ++ ys) a
+in_first [] ys a (k, l, is) = absurd (omega (arith, l))
+in_first (x ∷ xs) ys a (zero, l, is) = (zero, omega arith, is)
+in_first (x ∷ xs) ys a (suc k, l, is) = let r = in_first xs ys a (k, omega (arith, l), is) in (suc r.0, omega (arith, r.1), r.2)
+
+in_second : {A : Type 0} (xs ys : List A) (a : A) → Contains ys a → Contains (xs ++ ys) a
+in_second [] ys a c = c
+in_second (x ∷ xs) ys a c = let r = in_second xs ys a c in (suc r.0, omega (arith, r.1), r.2)
+
+in_mapped : {A B : Type 0} (f : A → B) (xs : List A) (a : A) → Contains xs a → Contains (map f xs) (f a)
+in_mapped f [] a (k, l, is) = absurd (omega (arith, l))
+in_mapped f (x ∷ xs) a (zero, l, is) = (zero, omega arith, ap f is)
+in_mapped f (x ∷ xs) a (suc k, l, is) = let r = in_mapped f xs a (k, omega (arith, l), is) in (suc r.0, omega (arith, r.1), r.2)
+
+-- ---- kinds
+-- the kind of a sort, as the code has it
+abbrev own_kind : Sort → Kind
+own_kind (sort heads.Int ts) = kinds.Integer
+own_kind t = kinds.Other
+
+own_shown : (t : Sort) → shown_kind (own_kind t) ≡ kind_of_sort t
+own_shown (sort heads.Int ts) = refl
+own_shown (sort heads.Bool ts) = refl
+own_shown (sort (heads.Pointer w) ts) = refl
+own_shown (sort heads.Real ts) = refl
+own_shown (sort heads.Any ts) = refl
+own_shown (sort (heads.Parameter i) ts) = refl
+own_shown (sort (heads.Unknown u) ts) = refl
+own_shown (sort (heads.Datatype d) ts) = refl
+own_shown (sort heads.Predicate ts) = refl
+
+own_there : (t : Sort) → Contains (kinds_of_sort t) (own_kind t)
+own_there (sort heads.Int ts) = (zero, omega arith, refl)
+own_there (sort heads.Bool ts) = (zero, omega arith, refl)
+own_there (sort (heads.Pointer w) ts) = (zero, omega arith, refl)
+own_there (sort heads.Real ts) = (zero, omega arith, refl)
+own_there (sort heads.Any ts) = (zero, omega arith, refl)
+own_there (sort (heads.Parameter i) ts) = (zero, omega arith, refl)
+own_there (sort (heads.Unknown u) ts) = (zero, omega arith, refl)
+own_there (sort (heads.Datatype d) ts) = (zero, omega arith, refl)
+own_there (sort heads.Predicate ts) = (zero, omega arith, refl)
+
+-- ---- the definitions of an item
+pub record HasItem (s : Scope) (paths : List (List ℕ)) (item : Item) (fs : List definitions.Fixpoint) : Type 0 where
+  pub own : List definitions.Fixpoint
+  pub defines : ItemDefines s paths item own
+  pub among : (k : definitions.Fixpoint) → Contains own k → Contains fs k
+
+item_there : (s : Scope) (paths : List (List ℕ)) (items : List Item) (fs : List definitions.Fixpoint) (item : Item) → HaveDefinitions s paths items fs → Contains items item → HasItem s paths item fs
+item_there s paths [] fs item h (k, l, is) = absurd (omega (arith, l))
+item_there s paths (x ∷ xs) fs item (more_items {ds} {es} d h) (zero, l, is) = subst (λ (y : Item). HasItem s paths y (ds ++ es)) is (record { own = ds; defines = d; among = in_first ds es })
+item_there s paths (x ∷ xs) fs item (more_items {ds} {es} d h) (suc k, l, is) =
+    let r = item_there s paths xs es item h (k, omega (arith, l), is) in
+    record { own = r.own; defines = r.defines; among = λ f c. in_second ds es f (r.among f c) }
+
+same_written : {a b : Written} → Some a ≡ Some b → a ≡ b
+same_written e = cc
+
+same_number : {m n : ℕ} → Some (meanings.Ghost m) ≡ Some (meanings.Ghost n) → m ≡ n
+same_number e = cc
+
+same_fixpoint : {a b : declaration.Fixpoint} → Some (ghosts.Fixpoint a) ≡ Some (ghosts.Fixpoint b) → a ≡ b
+same_fixpoint e = cc
+
+module _ (s : Scope) (paths : List (List ℕ)) (items : List Item) (fs : List definitions.Fixpoint) (i : Interpretation) (r : Ranks) (meets : MeetsDefinitions i fs)
+    (cases : HaveEachCase (declared_at s paths) fs) (down : GoDown r fs) (c : Identity) (x : declaration.Fixpoint) (is : Declares (declared_at s paths) c (ghosts.Fixpoint x)) (w : IsWritten s paths items c x) where
+  -- a definition with the body of the fixpoint
+  defined_kept : (b : Body) → Defines (within_fixpoint s (w.written).parameters x.arguments) paths w.number (w.written).body b → Contains fs (definition_of s paths w.written b (own_kind x.result)) → IsKept s paths i r c x
+  defined_kept b defines there = record {
+    body = b;
+    definition = definition_of s paths w.written b (own_kind x.result);
+    identity = w.identity;
+    defined = record {
+      number = w.number;
+      parameters = (w.written).parameters;
+      text = (w.written).body;
+      stands = (w.numbered).is;
+      known_result = w.known_result;
+      known_arguments = w.known_arguments;
+      long = w.long;
+      defines = defines;
+      each_case = cases (definition_of s paths w.written b (own_kind x.result)) there x (subst (λ (z : Identity). Declares (declared_at s paths) z (ghosts.Fixpoint x)) (sym w.identity) is);
+      counted = refl;
+      kind = own_shown x.result;
+    };
+    meets = meets (definition_of s paths w.written b (own_kind x.result)) there;
+    goes_down = subst (λ (z : Identity). BodyGoesDown r z (length x.arguments) b) w.identity (subst (λ (m : ℕ). BodyGoesDown r (definition_of s paths w.written b (own_kind x.result)).identity m b) w.long (down (definition_of s paths w.written b (own_kind x.result)) there));
+  }
+
+  -- the same of the body that the item has
+  written_kept : (v : Written) → v ≡ w.written → (n : ℕ) (f : declaration.Fixpoint) → IsNumbered s v n f → (b : Body) → Defines (within_fixpoint s v.parameters f.arguments) paths n v.body b → ((k : definitions.Fixpoint) → Contains (map (definition_of s paths v b) (kinds_of_sort f.result)) k → Contains fs k) → IsKept s paths i r c x
+  written_kept v same n f numbered b defines among =
+      let one : n ≡ w.number = same_number (sym numbered.means ∙ ap (λ (z : Written). declaration_of s z.name.text z.name.place.file) same ∙ (w.numbered).means) in
+      let two : f ≡ x = same_fixpoint (sym numbered.is ∙ ap (ghost_of s) one ∙ (w.numbered).is) in
+      let at_written = subst (λ (z : Written). Defines (within_fixpoint s z.parameters f.arguments) paths n z.body b) same defines in
+      let at_number = subst (λ (m : ℕ). Defines (within_fixpoint s (w.written).parameters f.arguments) paths m (w.written).body b) one at_written in
+      let there = subst (λ (z : Written). Contains fs (definition_of s paths z b (own_kind f.result))) same (among (definition_of s paths v b (own_kind f.result)) (in_mapped (definition_of s paths v b) (kinds_of_sort f.result) (own_kind f.result) (own_there f.result))) in
+      defined_kept b (subst (λ (y : declaration.Fixpoint). Defines (within_fixpoint s (w.written).parameters y.arguments) paths w.number (w.written).body b) two at_number)
+      (subst (λ (y : declaration.Fixpoint). Contains fs (definition_of s paths w.written b (own_kind y.result))) two there)
+
+  item_kept : (item : Item) (own : List definitions.Fixpoint) → ItemDefines s paths item own → written_in item ≡ Some w.written → ((k : definitions.Fixpoint) → Contains own k → Contains fs k) → IsKept s paths i r c x
+  item_kept item own (other_item none) there among = absurd (let q : None ≡ Some w.written = sym none ∙ there in cc)
+  item_kept item own (stray_item {w = v} there' none) there among = absurd (none w.number x (subst (λ (z : Written). IsNumbered s z w.number x) (same_written (sym there ∙ there')) w.numbered))
+  item_kept item own (fixpoint {w = v} {n} {f} {b} there' numbered defines) there among = written_kept v (same_written (sym there' ∙ there)) n f numbered b defines among
+
+pub unit_keeps_in : (sets : Sets) → UnitKeepsIn sets
+unit_keeps_in sets s paths items fs i r have meets well written cases down kinds =
+    kept_in sets s paths i r well
+    (λ c x is.
+    let w = written c x is in
+    let h = item_there s paths items fs w.item have w.among in
+    item_kept s paths items fs i r meets cases down c x is w w.item h.own h.defines w.is h.among)
+    kinds
+
+pub units_keep_sorts : UnitsKeepSorts
+units_keep_sorts tests = unit_keeps_in (passing tests)
