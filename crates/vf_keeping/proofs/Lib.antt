@@ -8,3 +8,4 @@ pub mod Patterns
 pub mod Bodies
 pub mod Recursion
 pub mod Units
+pub mod Numbers

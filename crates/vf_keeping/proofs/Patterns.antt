@@ -46,7 +46,7 @@ pub record IsMeant (s : Scope) (paths : List (List ℕ)) (from : ℕ) (x : List 
   pub means : declaration.meaning ≡ meanings.Ghost n
   pub identity : identity_of paths (files_of (seen_from s from o)) x ≡ identity_of paths declaration.files x
 
-meant_told : (s : Scope) (paths : List (List ℕ)) (from : ℕ) (x : List ℕ) (n : ℕ) (o : Option Declaration) → declared_in s from o ≡ Some (meanings.Ghost n) → IsMeant s paths from x n o
+pub meant_told : (s : Scope) (paths : List (List ℕ)) (from : ℕ) (x : List ℕ) (n : ℕ) (o : Option Declaration) → declared_in s from o ≡ Some (meanings.Ghost n) → IsMeant s paths from x n o
 meant_told s paths from x n None e = absurd cc
 meant_told s paths from x n (Some d) e = by (is_visible s from d.files) refl e
   where

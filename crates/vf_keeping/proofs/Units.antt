@@ -44,11 +44,11 @@ in_mapped f (x ∷ xs) a (suc k, l, is) = let r = in_mapped f xs a (k, omega (ar
 
 -- ---- kinds
 -- the kind of a sort, as the code has it
-abbrev own_kind : Sort → Kind
+abbrev pub own_kind : Sort → Kind
 own_kind (sort heads.Int ts) = kinds.Integer
 own_kind t = kinds.Other
 
-own_shown : (t : Sort) → shown_kind (own_kind t) ≡ kind_of_sort t
+pub own_shown : (t : Sort) → shown_kind (own_kind t) ≡ kind_of_sort t
 own_shown (sort heads.Int ts) = refl
 own_shown (sort heads.Bool ts) = refl
 own_shown (sort (heads.Pointer w) ts) = refl
@@ -92,55 +92,63 @@ same_number e = cc
 same_fixpoint : {a b : declaration.Fixpoint} → Some (ghosts.Fixpoint a) ≡ Some (ghosts.Fixpoint b) → a ≡ b
 same_fixpoint e = cc
 
-module _ (s : Scope) (paths : List (List ℕ)) (items : List Item) (fs : List definitions.Fixpoint) (i : Interpretation) (r : Ranks) (meets : MeetsDefinitions i fs)
-    (cases : HaveEachCase (declared_at s paths) fs) (down : GoDown r fs) (c : Identity) (x : declaration.Fixpoint) (is : Declares (declared_at s paths) c (ghosts.Fixpoint x)) (w : IsWritten s paths items c x) where
-  -- a definition with the body of the fixpoint
-  defined_kept : (b : Body) → Defines (within_fixpoint s (w.written).parameters x.arguments) paths w.number (w.written).body b → Contains fs (definition_of s paths w.written b (own_kind x.result)) → IsKept s paths i r c x
-  defined_kept b defines there = record {
-    body = b;
-    definition = definition_of s paths w.written b (own_kind x.result);
-    identity = w.identity;
-    defined = record {
-      number = w.number;
-      parameters = (w.written).parameters;
-      text = (w.written).body;
-      stands = (w.numbered).is;
-      known_result = w.known_result;
-      known_arguments = w.known_arguments;
-      long = w.long;
-      defines = defines;
-      each_case = cases (definition_of s paths w.written b (own_kind x.result)) there x (subst (λ (z : Identity). Declares (declared_at s paths) z (ghosts.Fixpoint x)) (sym w.identity) is);
-      counted = refl;
-      kind = own_shown x.result;
-    };
-    meets = meets (definition_of s paths w.written b (own_kind x.result)) there;
-    goes_down = subst (λ (z : Identity). BodyGoesDown r z (length x.arguments) b) w.identity (subst (λ (m : ℕ). BodyGoesDown r (definition_of s paths w.written b (own_kind x.result)).identity m b) w.long (down (definition_of s paths w.written b (own_kind x.result)) there));
-  }
+-- a fixpoint that stands among items has a body, and a definition with it of its result's kind
+pub record HasDefinition (s : Scope) (paths : List (List ℕ)) (items : List Item) (fs : List definitions.Fixpoint) (c : Identity) (x : declaration.Fixpoint) (w : IsWritten s paths items c x) : Type 0 where
+  pub body : Body
+  pub defines : Defines (within_fixpoint s (w.written).parameters x.arguments) paths w.number (w.written).body body
+  pub there : Contains fs (definition_of s paths w.written body (own_kind x.result))
 
-  -- the same of the body that the item has
-  written_kept : (v : Written) → v ≡ w.written → (n : ℕ) (f : declaration.Fixpoint) → IsNumbered s v n f → (b : Body) → Defines (within_fixpoint s v.parameters f.arguments) paths n v.body b → ((k : definitions.Fixpoint) → Contains (map (definition_of s paths v b) (kinds_of_sort f.result)) k → Contains fs k) → IsKept s paths i r c x
-  written_kept v same n f numbered b defines among =
+module _ (s : Scope) (paths : List (List ℕ)) (items : List Item) (fs : List definitions.Fixpoint) (c : Identity) (x : declaration.Fixpoint) (w : IsWritten s paths items c x) where
+  -- the body that the item has is that of the fixpoint
+  written_has : (v : Written) → v ≡ w.written → (n : ℕ) (f : declaration.Fixpoint) → IsNumbered s v n f → (b : Body) → Defines (within_fixpoint s v.parameters f.arguments) paths n v.body b → ((k : definitions.Fixpoint) → Contains (map (definition_of s paths v b) (kinds_of_sort f.result)) k → Contains fs k) → HasDefinition s paths items fs c x w
+  written_has v same n f numbered b defines among =
       let one : n ≡ w.number = same_number (sym numbered.means ∙ ap (λ (z : Written). declaration_of s z.name.text z.name.place.file) same ∙ (w.numbered).means) in
       let two : f ≡ x = same_fixpoint (sym numbered.is ∙ ap (ghost_of s) one ∙ (w.numbered).is) in
       let at_written = subst (λ (z : Written). Defines (within_fixpoint s z.parameters f.arguments) paths n z.body b) same defines in
       let at_number = subst (λ (m : ℕ). Defines (within_fixpoint s (w.written).parameters f.arguments) paths m (w.written).body b) one at_written in
-      let there = subst (λ (z : Written). Contains fs (definition_of s paths z b (own_kind f.result))) same (among (definition_of s paths v b (own_kind f.result)) (in_mapped (definition_of s paths v b) (kinds_of_sort f.result) (own_kind f.result) (own_there f.result))) in
-      defined_kept b (subst (λ (y : declaration.Fixpoint). Defines (within_fixpoint s (w.written).parameters y.arguments) paths w.number (w.written).body b) two at_number)
-      (subst (λ (y : declaration.Fixpoint). Contains fs (definition_of s paths w.written b (own_kind y.result))) two there)
+      let at = subst (λ (z : Written). Contains fs (definition_of s paths z b (own_kind f.result))) same (among (definition_of s paths v b (own_kind f.result)) (in_mapped (definition_of s paths v b) (kinds_of_sort f.result) (own_kind f.result) (own_there f.result))) in
+      record {
+        body = b;
+        defines = subst (λ (y : declaration.Fixpoint). Defines (within_fixpoint s (w.written).parameters y.arguments) paths w.number (w.written).body b) two at_number;
+        there = subst (λ (y : declaration.Fixpoint). Contains fs (definition_of s paths w.written b (own_kind y.result))) two at;
+      }
 
-  item_kept : (item : Item) (own : List definitions.Fixpoint) → ItemDefines s paths item own → written_in item ≡ Some w.written → ((k : definitions.Fixpoint) → Contains own k → Contains fs k) → IsKept s paths i r c x
-  item_kept item own (other_item none) there among = absurd (let q : None ≡ Some w.written = sym none ∙ there in cc)
-  item_kept item own (stray_item {w = v} there' none) there among = absurd (none w.number x (subst (λ (z : Written). IsNumbered s z w.number x) (same_written (sym there ∙ there')) w.numbered))
-  item_kept item own (fixpoint {w = v} {n} {f} {b} there' numbered defines) there among = written_kept v (same_written (sym there' ∙ there)) n f numbered b defines among
+  item_has : (item : Item) (own : List definitions.Fixpoint) → ItemDefines s paths item own → written_in item ≡ Some w.written → ((k : definitions.Fixpoint) → Contains own k → Contains fs k) → HasDefinition s paths items fs c x w
+  item_has item own (other_item none) there among = absurd (let q : None ≡ Some w.written = sym none ∙ there in cc)
+  item_has item own (stray_item {w = v} there' none) there among = absurd (none w.number x (subst (λ (z : Written). IsNumbered s z w.number x) (same_written (sym there ∙ there')) w.numbered))
+  item_has item own (fixpoint {w = v} {n} {f} {b} there' numbered defines) there among = written_has v (same_written (sym there' ∙ there)) n f numbered b defines among
+
+  pub has_definition : HaveDefinitions s paths items fs → HasDefinition s paths items fs c x w
+  has_definition have = let h = item_there s paths items fs w.item have w.among in item_has w.item h.own h.defines w.is h.among
+
+  -- where definitions are met, have a case for each constructor and go down, so does it
+  defined_kept : (i : Interpretation) (r : Ranks) → MeetsDefinitions i fs → HaveEachCase (declared_at s paths) fs → GoDown r fs → Declares (declared_at s paths) c (ghosts.Fixpoint x) → HasDefinition s paths items fs c x w → IsKept s paths i r c x
+  defined_kept i r meets cases down is h =
+      let k = definition_of s paths w.written h.body (own_kind x.result) in
+      record {
+        body = h.body;
+        definition = k;
+        identity = w.identity;
+        defined = record {
+          number = w.number;
+          parameters = (w.written).parameters;
+          text = (w.written).body;
+          stands = (w.numbered).is;
+          known_result = w.known_result;
+          known_arguments = w.known_arguments;
+          long = w.long;
+          defines = h.defines;
+          each_case = cases k h.there x (subst (λ (z : Identity). Declares (declared_at s paths) z (ghosts.Fixpoint x)) (sym w.identity) is);
+          counted = refl;
+          kind = own_shown x.result;
+        };
+        meets = meets k h.there;
+        goes_down = subst (λ (z : Identity). BodyGoesDown r z (length x.arguments) h.body) w.identity (subst (λ (m : ℕ). BodyGoesDown r k.identity m h.body) w.long (down k h.there));
+      }
 
 pub unit_keeps_in : (sets : Sets) → UnitKeepsIn sets
 unit_keeps_in sets s paths items fs i r have meets well written cases down kinds =
-    kept_in sets s paths i r well
-    (λ c x is.
-    let w = written c x is in
-    let h = item_there s paths items fs w.item have w.among in
-    item_kept s paths items fs i r meets cases down c x is w w.item h.own h.defines w.is h.among)
-    kinds
+    kept_in sets s paths i r well (λ c x is. let w = written c x is in defined_kept s paths items fs c x w i r meets cases down is (has_definition s paths items fs c x w have)) kinds
 
 pub units_keep_sorts : UnitsKeepSorts
 units_keep_sorts tests = unit_keeps_in (passing tests)

@@ -3,3 +3,4 @@ pub mod Resolved
 pub mod Bodies
 pub mod Recursion
 pub mod Units
+pub mod Numbers

@@ -2,6 +2,7 @@
 
 ghost use Rattle.vf_keeping.specs.Bodies.{BodiesGiveSorts};
 ghost use Rattle.vf_keeping.specs.Closed.{PlacedAlike};
+ghost use Rattle.vf_keeping.specs.Numbers.{NumbersKeepSorts, NumbersKeepValues, NumbersMeetDefinitions};
 ghost use Rattle.vf_keeping.specs.Recursion.{BodiesKeepSorts};
 ghost use Rattle.vf_keeping.specs.Resolved.{EquatingResolves, PassingResolves, PassingSettles};
 ghost use Rattle.vf_keeping.specs.Units.{UnitsKeepSorts};
@@ -45,4 +46,21 @@ pub fn bodies_keep_sorts()
 /// the unit declares keep sorts.
 pub fn units_keep_sorts()
     ensures { UnitsKeepSorts }
+{}
+
+/// Terms in which fixpoints with results of integers are applied as such have the same values where these fixpoints give
+/// numbers.
+pub fn numbers_keep_values()
+    ensures { NumbersKeepValues }
+{}
+
+/// So definitions whose bodies are such terms are met where these fixpoints give numbers.
+pub fn numbers_meet_definitions()
+    ensures { NumbersMeetDefinitions }
+{}
+
+/// Where an interpretation gives the definitions of the items of a unit the values of their bodies, which are such
+/// terms, the fixpoints that the unit declares keep sorts where those with results of integers give numbers.
+pub fn numbers_keep_sorts()
+    ensures { NumbersKeepSorts }
 {}
