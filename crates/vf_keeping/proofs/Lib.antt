@@ -9,3 +9,4 @@ pub mod Bodies
 pub mod Recursion
 pub mod Units
 pub mod Numbers
+pub mod Applied

@@ -4,3 +4,4 @@ pub mod Bodies
 pub mod Recursion
 pub mod Units
 pub mod Numbers
+pub mod Applied

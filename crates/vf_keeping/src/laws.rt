@@ -1,5 +1,6 @@
 //! Laws of fixpoints. Each function does nothing; its contract is the law.
 
+ghost use Rattle.vf_keeping.specs.Applied.{ReadingsAreKinded};
 ghost use Rattle.vf_keeping.specs.Bodies.{BodiesGiveSorts};
 ghost use Rattle.vf_keeping.specs.Closed.{PlacedAlike};
 ghost use Rattle.vf_keeping.specs.Numbers.{NumbersKeepSorts, NumbersKeepValues, NumbersMeetDefinitions};
@@ -63,4 +64,9 @@ pub fn numbers_meet_definitions()
 /// terms, the fixpoints that the unit declares keep sorts where those with results of integers give numbers.
 pub fn numbers_keep_sorts()
     ensures { NumbersKeepSorts }
+{}
+
+/// Terms that are read apply fixpoints with results of integers as such, where the terms that stand in a setting do.
+pub fn readings_are_kinded()
+    ensures { ReadingsAreKinded }
 {}

@@ -9,5 +9,5 @@ mod laws;
 pub use laws::{
     bodies_give_sorts, bodies_keep_sorts, equating_resolves, numbers_keep_sorts,
     numbers_keep_values, numbers_meet_definitions, passing_resolves, passing_settles,
-    sorts_are_placed_alike, units_keep_sorts,
+    readings_are_kinded, sorts_are_placed_alike, units_keep_sorts,
 };
