@@ -10,3 +10,4 @@ pub mod Recursion
 pub mod Units
 pub mod Numbers
 pub mod Applied
+pub mod Defined

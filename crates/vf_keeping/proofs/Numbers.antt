@@ -25,7 +25,8 @@ use Rattle.vf_definitions.specs.declared.fixpoint.Body.{Body}
 use Rattle.vf_definitions.specs.declared.fixpoint.Body.TheVariants.{Returns, Switches}
 use Rattle.vf_definitions.specs.declared.fixpoint.Fixpoint as definitions
 use Rattle.vf_defining.specs.Bodies.{identity_at}
-use Rattle.vf_defining.specs.Units.{HaveDefinitions, no_items, more_items, IsNumbered, ItemDefines, other_item, stray_item, fixpoint, Written, definition_of, kinds_of_sort}
+use Rattle.vf_defining.specs.Fixpoints.{Defines}
+use Rattle.vf_defining.specs.Units.{HaveDefinitions, no_items, more_items, IsNumbered, ItemDefines, other_item, stray_item, fixpoint, Written, definition_of, kinds_of_sort, within_fixpoint}
 use Rattle.vf_worth.specs.Declares.{Declares}
 use Rattle.vf_worth.specs.Worth.{Sets, passing}
 use Rattle.vf_worth.proofs.Operating.{first_of, second_of}
@@ -34,7 +35,7 @@ use Rattle.vf_keeping.specs.Recursion.{GivesKinds, Ranks}
 use Rattle.vf_keeping.specs.Units.{EachIsWritten, IsWritten}
 use Rattle.vf_keeping.specs.Numbers.{AreKinded, BodyIsKinded, HeadIsKinded, NumbersKeepIn, NumbersKeepSorts, NumbersKeepValues, NumbersMeetDefinitions, TermIsKinded, TermsAreKinded, gives_integers, with_numbers}
 use Rattle.vf_keeping.proofs.Patterns.{meant_told}
-use Rattle.vf_keeping.proofs.Units.{has_definition, own_kind, own_shown, unit_keeps_in}
+use Rattle.vf_keeping.proofs.Units.{has_definition, in_first, in_mapped, in_second, own_kind, own_shown, own_there, unit_keeps_in}
 
 -- ---- values
 module _ (fs : List definitions.Fixpoint) (i : Interpretation) where
@@ -94,7 +95,7 @@ identity_told a b e = ⊎_elim (λ p. p.1) (λ q. absurd (let r : false ≡ true
 abbrev IsFoundIn : List definitions.Fixpoint → Kind → Identity → definitions.Fixpoint → Type 0
 IsFoundIn fs k c x = Contains fs x × (shown_kind x.kind ≡ k) × (x.identity ≡ c)
 
-fixpoint_found : (fs : List definitions.Fixpoint) (k : Kind) (c : Identity) (x : definitions.Fixpoint) → fixpoint_for fs k c ≡ Some x → IsFoundIn fs k c x
+pub fixpoint_found : (fs : List definitions.Fixpoint) (k : Kind) (c : Identity) (x : definitions.Fixpoint) → fixpoint_for fs k c ≡ Some x → IsFoundIn fs k c x
 fixpoint_found [] k c x e = absurd cc
 fixpoint_found (y ∷ ys) k c x e = by (fixpoint_found ys k c x) (same_kind (shown_kind y.kind) k && same_identity y.identity c) refl e
   where
@@ -109,7 +110,7 @@ both_true : (a b : Bool) → a ≡ true → b ≡ true → (a && b) ≡ true
 both_true true b p q = q
 both_true false b p q = p
 
-fixpoint_there : (fs : List definitions.Fixpoint) (x : definitions.Fixpoint) → Contains fs x → is_some (fixpoint_for fs (shown_kind x.kind) x.identity) ≡ true
+pub fixpoint_there : (fs : List definitions.Fixpoint) (x : definitions.Fixpoint) → Contains fs x → is_some (fixpoint_for fs (shown_kind x.kind) x.identity) ≡ true
 fixpoint_there [] x (k, l, is) = absurd (omega (arith, l))
 fixpoint_there (y ∷ ys) x (zero, l, is) =
     subst (λ (z : definitions.Fixpoint). is_some (fixpoint_for (y ∷ ys) (shown_kind z.kind) z.identity) ≡ true) is
@@ -120,7 +121,7 @@ fixpoint_there (y ∷ ys) x (suc k, l, is) = by (same_kind (shown_kind y.kind) (
     by true e = refl
     by false e = e
 
-not_both : {A : Type 0} (b : Bool) → b ≡ true → not b ≡ true → A
+pub not_both : {A : Type 0} (b : Bool) → b ≡ true → not b ≡ true → A
 not_both true p q = absurd cc
 not_both false p q = absurd cc
 
@@ -162,29 +163,63 @@ integers_alone (sort (heads.Unknown u) ts) e k c = absurd cc
 integers_alone (sort (heads.Datatype d) ts) e k c = absurd cc
 integers_alone (sort heads.Predicate ts) e k c = absurd cc
 
--- a definition is that of a declared fixpoint
-record IsFrom (s : Scope) (paths : List (List ℕ)) (x : definitions.Fixpoint) : Type 0 where
-  declared : declaration.Fixpoint
-  declares : Declares (declared_at s paths) x.identity (ghosts.Fixpoint declared)
-  integers : kind_of_sort declared.result ≡ Integer → shown_kind x.kind ≡ Integer
+-- a definition is that of a declared fixpoint, which has one of its result's kind with the same body
+pub record IsFrom (s : Scope) (paths : List (List ℕ)) (all : List definitions.Fixpoint) (x : definitions.Fixpoint) : Type 0 where
+  pub written : Written
+  pub number : ℕ
+  pub declared : declaration.Fixpoint
+  pub defines : Defines (within_fixpoint s written.parameters declared.arguments) paths number written.body x.body
+  pub declares : Declares (declared_at s paths) x.identity (ghosts.Fixpoint declared)
+  pub integers : kind_of_sort declared.result ≡ Integer → shown_kind x.kind ≡ Integer
+  pub own : definitions.Fixpoint
+  pub own_among : Contains all own
+  pub own_identity_is : own.identity ≡ x.identity
+  pub own_kind_is : shown_kind own.kind ≡ kind_of_sort declared.result
 
 numbered_declares : (s : Scope) (paths : List (List ℕ)) (w : Written) (n : ℕ) (f : declaration.Fixpoint) → IsNumbered s w n f → Declares (declared_at s paths) (identity_at s paths w.name) (ghosts.Fixpoint f)
 numbered_declares s paths w n f numbered =
     let m = meant_told s paths w.name.place.file w.name.text n (at_name s.names s.declarations w.name.text) numbered.means in
     record { name = w.name.text; declaration = m.declaration; number = n; found = m.found; means = m.means; stands = numbered.is; is = m.identity }
 
-item_from : (s : Scope) (paths : List (List ℕ)) (item : Item) (own : List definitions.Fixpoint) → ItemDefines s paths item own → (x : definitions.Fixpoint) → Contains own x → IsFrom s paths x
-item_from s paths item own (other_item e) x (k, l, is) = absurd (omega (arith, l))
-item_from s paths item own (stray_item e stray) x (k, l, is) = absurd (omega (arith, l))
-item_from s paths item own (fixpoint {w} {n} {f} {b} e numbered defines) x there =
+item_from : (s : Scope) (paths : List (List ℕ)) (item : Item) (all : List definitions.Fixpoint) → ItemDefines s paths item all → (x : definitions.Fixpoint) → Contains all x → IsFrom s paths all x
+item_from s paths item all (other_item e) x (k, l, is) = absurd (omega (arith, l))
+item_from s paths item all (stray_item e stray) x (k, l, is) = absurd (omega (arith, l))
+item_from s paths item all (fixpoint {w} {n} {f} {b} e numbered defines) x there =
     let r = mapped_from (definition_of s paths w b) (kinds_of_sort f.result) x there in
-    subst (IsFrom s paths) (sym r.2) (record { declared = f; declares = numbered_declares s paths w n f numbered; integers = λ q. integers_alone f.result q r.0 r.1 })
+    subst (IsFrom s paths (map (definition_of s paths w b) (kinds_of_sort f.result))) (sym r.2)
+    (record {
+      written = w;
+      number = n;
+      declared = f;
+      defines = defines;
+      declares = numbered_declares s paths w n f numbered;
+      integers = λ q. integers_alone f.result q r.0 r.1;
+      own = definition_of s paths w b (own_kind f.result);
+      own_among = in_mapped (definition_of s paths w b) (kinds_of_sort f.result) (own_kind f.result) (own_there f.result);
+      own_identity_is = refl;
+      own_kind_is = own_shown f.result;
+    })
 
-definition_from : (s : Scope) (paths : List (List ℕ)) (items : List Item) (fs : List definitions.Fixpoint) → HaveDefinitions s paths items fs → (x : definitions.Fixpoint) → Contains fs x → IsFrom s paths x
+among_more : (s : Scope) (paths : List (List ℕ)) (all more_ : List definitions.Fixpoint) (x : definitions.Fixpoint) → ((y : definitions.Fixpoint) → Contains all y → Contains more_ y) → IsFrom s paths all x → IsFrom s paths more_ x
+among_more s paths all more_ x f h = record {
+  written = h.written;
+  number = h.number;
+  declared = h.declared;
+  defines = h.defines;
+  declares = h.declares;
+  integers = h.integers;
+  own = h.own;
+  own_among = f h.own h.own_among;
+  own_identity_is = h.own_identity_is;
+  own_kind_is = h.own_kind_is;
+}
+
+pub definition_from : (s : Scope) (paths : List (List ℕ)) (items : List Item) (fs : List definitions.Fixpoint) → HaveDefinitions s paths items fs → (x : definitions.Fixpoint) → Contains fs x → IsFrom s paths fs x
 definition_from s paths items fs no_items x (k, l, is) = absurd (omega (arith, l))
-definition_from s paths items fs (more_items {x = item} {ds} {es} d h) x there = ⊎_elim (λ p. item_from s paths item ds d x p) (λ q. definition_from s paths _ es h x q) (apart ds es x there)
+definition_from s paths items fs (more_items {x = item} {ds} {es} d h) x there =
+    ⊎_elim (λ p. among_more s paths ds (ds ++ es) x (in_first ds es) (item_from s paths item ds d x p)) (λ q. among_more s paths es (ds ++ es) x (in_second ds es) (definition_from s paths _ es h x q)) (apart ds es x there)
 
-same_fixpoint : {a b : declaration.Fixpoint} → ghosts.Fixpoint a ≡ ghosts.Fixpoint b → a ≡ b
+pub same_fixpoint : {a b : declaration.Fixpoint} → ghosts.Fixpoint a ≡ ghosts.Fixpoint b → a ≡ b
 same_fixpoint e = cc
 
 not_some : {A : Type 0} (o : Option A) → ((a : A) → o ≡ Some a → ⊥) → not (is_some o) ≡ true

@@ -28,16 +28,16 @@ use Rattle.vf_keeping.specs.Units.{EachIsWritten, GoDown, HaveEachCase, IsWritte
 use Rattle.vf_keeping.proofs.Recursion.{kept_in}
 
 -- ---- lists
-in_first : {A : Type 0} (xs ys : List A) (a : A) → Contains xs a → Contains (xs ++ ys) a
+pub in_first : {A : Type 0} (xs ys : List A) (a : A) → Contains xs a → Contains (xs ++ ys) a
 in_first [] ys a (k, l, is) = absurd (omega (arith, l))
 in_first (x ∷ xs) ys a (zero, l, is) = (zero, omega arith, is)
 in_first (x ∷ xs) ys a (suc k, l, is) = let r = in_first xs ys a (k, omega (arith, l), is) in (suc r.0, omega (arith, r.1), r.2)
 
-in_second : {A : Type 0} (xs ys : List A) (a : A) → Contains ys a → Contains (xs ++ ys) a
+pub in_second : {A : Type 0} (xs ys : List A) (a : A) → Contains ys a → Contains (xs ++ ys) a
 in_second [] ys a c = c
 in_second (x ∷ xs) ys a c = let r = in_second xs ys a c in (suc r.0, omega (arith, r.1), r.2)
 
-in_mapped : {A B : Type 0} (f : A → B) (xs : List A) (a : A) → Contains xs a → Contains (map f xs) (f a)
+pub in_mapped : {A B : Type 0} (f : A → B) (xs : List A) (a : A) → Contains xs a → Contains (map f xs) (f a)
 in_mapped f [] a (k, l, is) = absurd (omega (arith, l))
 in_mapped f (x ∷ xs) a (zero, l, is) = (zero, omega arith, ap f is)
 in_mapped f (x ∷ xs) a (suc k, l, is) = let r = in_mapped f xs a (k, omega (arith, l), is) in (suc r.0, omega (arith, r.1), r.2)
@@ -59,7 +59,7 @@ own_shown (sort (heads.Unknown u) ts) = refl
 own_shown (sort (heads.Datatype d) ts) = refl
 own_shown (sort heads.Predicate ts) = refl
 
-own_there : (t : Sort) → Contains (kinds_of_sort t) (own_kind t)
+pub own_there : (t : Sort) → Contains (kinds_of_sort t) (own_kind t)
 own_there (sort heads.Int ts) = (zero, omega arith, refl)
 own_there (sort heads.Bool ts) = (zero, omega arith, refl)
 own_there (sort (heads.Pointer w) ts) = (zero, omega arith, refl)

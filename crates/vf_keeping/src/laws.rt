@@ -1,6 +1,6 @@
 //! Laws of fixpoints. Each function does nothing; its contract is the law.
 
-ghost use Rattle.vf_keeping.specs.Applied.{ReadingsAreKinded};
+ghost use Rattle.vf_keeping.specs.Applied.{DefinedKeepSorts, DefinitionsAreKinded, ReadingsAreKinded};
 ghost use Rattle.vf_keeping.specs.Bodies.{BodiesGiveSorts};
 ghost use Rattle.vf_keeping.specs.Closed.{PlacedAlike};
 ghost use Rattle.vf_keeping.specs.Numbers.{NumbersKeepSorts, NumbersKeepValues, NumbersMeetDefinitions};
@@ -69,4 +69,15 @@ pub fn numbers_keep_sorts()
 /// Terms that are read apply fixpoints with results of integers as such, where the terms that stand in a setting do.
 pub fn readings_are_kinded()
     ensures { ReadingsAreKinded }
+{}
+
+/// So do the bodies of the definitions of the items of a unit.
+pub fn definitions_are_kinded()
+    ensures { DefinitionsAreKinded }
+{}
+
+/// Where an interpretation gives the definitions of the items of a unit the values of their bodies, the fixpoints that
+/// the unit declares keep sorts where those with results of integers give numbers, which are the same in terms.
+pub fn defined_keep_sorts()
+    ensures { DefinedKeepSorts }
 {}
