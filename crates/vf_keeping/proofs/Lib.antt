@@ -11,3 +11,4 @@ pub mod Units
 pub mod Numbers
 pub mod Applied
 pub mod Defined
+pub mod Expressions

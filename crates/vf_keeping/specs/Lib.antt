@@ -5,3 +5,4 @@ pub mod Recursion
 pub mod Units
 pub mod Numbers
 pub mod Applied
+pub mod Expressions

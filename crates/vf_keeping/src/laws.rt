@@ -3,6 +3,7 @@
 ghost use Rattle.vf_keeping.specs.Applied.{DefinedKeepSorts, DefinitionsAreKinded, ReadingsAreKinded};
 ghost use Rattle.vf_keeping.specs.Bodies.{BodiesGiveSorts};
 ghost use Rattle.vf_keeping.specs.Closed.{PlacedAlike};
+ghost use Rattle.vf_keeping.specs.Expressions.{ValuesFollowSorting};
 ghost use Rattle.vf_keeping.specs.Numbers.{NumbersKeepSorts, NumbersKeepValues, NumbersMeetDefinitions};
 ghost use Rattle.vf_keeping.specs.Recursion.{BodiesKeepSorts};
 ghost use Rattle.vf_keeping.specs.Resolved.{EquatingResolves, PassingResolves, PassingSettles};
@@ -80,4 +81,11 @@ pub fn definitions_are_kinded()
 /// the unit declares keep sorts where those with results of integers give numbers, which are the same in terms.
 pub fn defined_keep_sorts()
     ensures { DefinedKeepSorts }
+{}
+
+/// Where an interpretation gives the fixpoints that the items of a unit declare the values of their bodies, and the terms
+/// that stand in a setting have values of their sorts, the term of an expression that has a sort, or passes for a wanted
+/// one, has a value of that sort as it is known in the end.
+pub fn values_follow_sorting()
+    ensures { ValuesFollowSorting }
 {}
