@@ -1,6 +1,6 @@
 -- Terms that are read apply fixpoints with results of integers as such.
-use Rattle.std.proofs.Common.{◌≡◌, ℕ, ◌+◌, Bool, true, false, List, [], ◌∷◌, Option, Some, None, refl, sym, subst, ap, ◌∙◌}
-use Rattle.std.specs.Prelude.{◌&&◌, ◌||◌, drop, if◌then◌else◌, nat_eq, pos, slice_get}
+use Rattle.std.proofs.Common.{◌≡◌, ℕ, ◌+◌, Bool, true, false, List, [], ◌∷◌, Option, Some, None, refl}
+use Rattle.std.specs.Prelude.{◌&&◌, ◌||◌, drop, if◌then◌else◌, nat_eq, pos}
 use Rattle.vf_base.specs.declared.place.Place.{Place}
 use Rattle.vf_tree.specs.Core.{Identity}
 use Rattle.vf_names.specs.Names.{number_of}
@@ -25,15 +25,14 @@ use Rattle.vf_declared.specs.Scopes.{at_name, declared_in, ghost_of, is_later_pr
 use Rattle.vf_sorting.specs.declared.scheme.Scheme.{Scheme}
 use Rattle.vf_sorting.specs.Kinds.{int_sort, is_any, is_pointer, pointer_sort, value_sort}
 use Rattle.vf_sorting.specs.Operators.{is_equality, is_null, moves}
-use Rattle.vf_sorting.specs.Schemes.{applied_ghost, applied_scheme, application_scheme, name_scheme, used_parameters}
+use Rattle.vf_sorting.specs.Schemes.{applied_ghost, applied_scheme, application_scheme, used_parameters}
 use Rattle.vf_terms.specs.Settings.{Setting, kind_of_sort, settled}
-use Rattle.vf_terms.specs.Named.{applied_by, applied_ghost_head, applied_head, applied_term, declaration_seen, declared_head, ghost_head, identity_of, later_head, local_term, meant_head, name_term, scheme_or_int, seen_from, term_of_head, term_of_name, test_by, test_head}
-use Rattle.vf_terms.specs.Operated.{operator_head, over_two, prefixed_term}
+use Rattle.vf_terms.specs.Named.{applied_by, applied_ghost_head, applied_head, applied_term, declaration_seen, declared_head, ghost_head, identity_of, later_head, meant_head, name_term, scheme_or_int, seen_from, term_of_head, test_by, test_head}
+use Rattle.vf_terms.specs.Operated.{operator_head, prefixed_term}
 use Rattle.vf_terms.specs.Readings.{beside_by, linked, null_term, number_reading, paired, read, read_all, read_link, read_links, reading}
 use Rattle.vf_terms.specs.Readings as readings
 use Rattle.vf_terms.specs.declared.reading.Reading.{Reading}
 use Rattle.vf_terms.specs.declared.reading.Pair.{Pair}
-use Rattle.vf_terms.specs.declared.reading.Row.{Row}
 use Rattle.vf_definitions.specs.declared.fixpoint.Fixpoint as definitions
 use Rattle.vf_worth.specs.Declares.{Declares, file_level}
 use Rattle.vf_keeping.specs.Numbers.{HeadIsKinded, TermIsKinded, TermsAreKinded}

@@ -1,10 +1,9 @@
 -- The bodies of the definitions of items apply fixpoints with results of integers as such; so these keep sorts with numbers.
 use Rattle.std.proofs.Common.{◌≡◌, ℕ, zero, suc, Bool, true, false, cond, not, List, [], ◌∷◌, Option, Some, None, refl, sym, subst, ap, ◌∙◌}
-use Rattle.std.specs.Prelude.{Contains, is_some, slice_get}
+use Rattle.std.specs.Prelude.{is_some, slice_get}
 use Rattle.vf_tree.specs.Core.{Identity}
 use Rattle.vf_model.specs.Values.{same_identity}
 use Rattle.vf_closure.specs.Terms.{Kind, Integer, Other}
-use Rattle.vf_formula.specs.Heads.{shown_kind}
 use Rattle.vf_sorts.specs.Sorts.{Sort}
 use Rattle.vf_sorts.specs.Unknowns.{Known, filled, settling}
 use Rattle.vf_syntax.specs.declared.item.FixpointBody.{FixpointBody}
@@ -33,7 +32,7 @@ use Rattle.vf_worth.specs.Declares.{Declared, Declares}
 use Rattle.vf_worth.specs.Worth.{Sets, passing}
 use Rattle.vf_worth.proofs.Operating.{first_of, second_of}
 use Rattle.vf_keeping.specs.Bodies.{IsWellDeclared, declared_at}
-use Rattle.vf_keeping.specs.Numbers.{AreKinded, BodyIsKinded, TermIsKinded, gives_integers}
+use Rattle.vf_keeping.specs.Numbers.{BodyIsKinded, TermIsKinded}
 use Rattle.vf_keeping.specs.Applied.{AreOfIntegers, DefinedKeepIn, DefinedKeepSorts, DefinitionsAreKinded, IsSettingKinded}
 use Rattle.vf_keeping.proofs.Applied.{read_kinded}
 use Rattle.vf_keeping.proofs.Numbers.{IsFrom, definition_from, fixpoint_found, fixpoint_there, not_both, numbers_keep_in, same_fixpoint}

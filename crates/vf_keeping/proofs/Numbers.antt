@@ -1,5 +1,5 @@
 -- With numbers for fixpoints whose results are integers, terms have the same values and fixpoints keep sorts.
-use Rattle.std.proofs.Common.{◌≡◌, ◌⊎◌, inl, inr, ℕ, zero, suc, ◌<◌, Bool, true, false, cond, not, List, [], ◌∷◌, ◌++◌, length, map, Option, Some, None, refl, sym, subst, ap, ap₂, ◌∙◌, ⊎_elim, arith}
+use Rattle.std.proofs.Common.{◌≡◌, ◌⊎◌, inl, inr, ℕ, zero, suc, Bool, true, false, cond, not, List, [], ◌∷◌, ◌++◌, map, Option, Some, None, refl, sym, subst, ap, ap₂, ◌∙◌, ⊎_elim, arith}
 use Rattle.std.specs.Prelude.{◌&&◌, Contains, is_some}
 use Rattle.vf_tree.specs.Core.{Identity}
 use Rattle.vf_model.specs.Values.{Value, Values, more, same_identity}
@@ -10,7 +10,6 @@ use Rattle.vf_closure.specs.Terms.{Kind, Integer, Other, Head, Symbol, Number, T
 use Rattle.vf_closure.specs.Values.{all_values, applied, of_kind, value}
 use Rattle.vf_formula.specs.Heads.{shown_kind}
 use Rattle.vf_formula.specs.declared.head.Kind as code
-use Rattle.vf_formula.specs.declared.head.Kind.TheVariants as kinds
 use Rattle.vf_sorts.specs.declared.sort.Head.TheVariants as heads
 use Rattle.vf_sorts.specs.Sorts.{Sort, sort}
 use Rattle.vf_syntax.specs.declared.item.Item.{Item}
@@ -19,7 +18,7 @@ use Rattle.vf_declared.specs.declared.declaration.GhostDeclaration.TheVariants a
 use Rattle.vf_declared.specs.declared.scope.Scope.{Scope}
 use Rattle.vf_declared.specs.Scopes.{at_name}
 use Rattle.vf_terms.specs.Settings.{kind_of_sort}
-use Rattle.vf_definitions.specs.Laws.{MeetsBody, MeetsDefinitions}
+use Rattle.vf_definitions.specs.Laws.{MeetsBody}
 use Rattle.vf_definitions.specs.Unfolded.{fixpoint_for, same_kind}
 use Rattle.vf_definitions.specs.declared.fixpoint.Body.{Body}
 use Rattle.vf_definitions.specs.declared.fixpoint.Body.TheVariants.{Returns, Switches}
@@ -31,9 +30,9 @@ use Rattle.vf_worth.specs.Declares.{Declares}
 use Rattle.vf_worth.specs.Worth.{Sets, passing}
 use Rattle.vf_worth.proofs.Operating.{first_of, second_of}
 use Rattle.vf_keeping.specs.Bodies.{IsWellDeclared, declared_at}
-use Rattle.vf_keeping.specs.Recursion.{GivesKinds, Ranks}
+use Rattle.vf_keeping.specs.Recursion.{GivesKinds}
 use Rattle.vf_keeping.specs.Units.{EachIsWritten, IsWritten}
-use Rattle.vf_keeping.specs.Numbers.{AreKinded, BodyIsKinded, HeadIsKinded, NumbersKeepIn, NumbersKeepSorts, NumbersKeepValues, NumbersMeetDefinitions, TermIsKinded, TermsAreKinded, gives_integers, with_numbers}
+use Rattle.vf_keeping.specs.Numbers.{BodyIsKinded, HeadIsKinded, NumbersKeepIn, NumbersKeepSorts, NumbersKeepValues, NumbersMeetDefinitions, TermIsKinded, TermsAreKinded, gives_integers, with_numbers}
 use Rattle.vf_keeping.proofs.Patterns.{meant_told}
 use Rattle.vf_keeping.proofs.Units.{has_definition, in_first, in_mapped, in_second, own_kind, own_shown, own_there, unit_keeps_in}
 

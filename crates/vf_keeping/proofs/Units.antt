@@ -1,5 +1,5 @@
 -- The fixpoints of a unit keep sorts.
-use Rattle.std.proofs.Common.{◌≡◌, ℕ, zero, suc, ◌<◌, List, [], ◌∷◌, ◌++◌, length, map, Some, None, refl, sym, subst, ap, ◌∙◌, arith}
+use Rattle.std.proofs.Common.{◌≡◌, ℕ, zero, suc, List, [], ◌∷◌, ◌++◌, length, map, Some, None, refl, sym, subst, ap, ◌∙◌, arith}
 use Rattle.std.specs.Prelude.{Contains}
 use Rattle.vf_tree.specs.Core.{Identity}
 use Rattle.vf_meaning.specs.GhostValues.{Interpretation}
@@ -19,12 +19,12 @@ use Rattle.vf_definitions.specs.Laws.{MeetsDefinitions}
 use Rattle.vf_definitions.specs.declared.fixpoint.Body.{Body}
 use Rattle.vf_definitions.specs.declared.fixpoint.Fixpoint as definitions
 use Rattle.vf_defining.specs.Fixpoints.{Defines}
-use Rattle.vf_defining.specs.Units.{HaveDefinitions, no_items, more_items, IsNumbered, ItemDefines, other_item, stray_item, fixpoint, Written, definition_of, kinds_of_sort, within_fixpoint, written_in}
+use Rattle.vf_defining.specs.Units.{HaveDefinitions, more_items, IsNumbered, ItemDefines, other_item, stray_item, fixpoint, Written, definition_of, kinds_of_sort, within_fixpoint, written_in}
 use Rattle.vf_worth.specs.Declares.{Declares}
 use Rattle.vf_worth.specs.Worth.{Sets, passing}
-use Rattle.vf_keeping.specs.Bodies.{IsWellDeclared, declared_at}
+use Rattle.vf_keeping.specs.Bodies.{declared_at}
 use Rattle.vf_keeping.specs.Recursion.{BodyGoesDown, IsKept, Ranks}
-use Rattle.vf_keeping.specs.Units.{EachIsWritten, GoDown, HaveEachCase, IsWritten, UnitKeepsIn, UnitsKeepSorts}
+use Rattle.vf_keeping.specs.Units.{GoDown, HaveEachCase, IsWritten, UnitKeepsIn, UnitsKeepSorts}
 use Rattle.vf_keeping.proofs.Recursion.{kept_in}
 
 -- ---- lists
