@@ -148,7 +148,7 @@ datatype_told (sort (heads.Parameter i) us) d e = absurd cc
 datatype_told (sort (heads.Unknown u) us) d e = absurd cc
 datatype_told (sort heads.Predicate us) d e = absurd cc
 
-some_there : {A : Type 0} (o : Option A) → is_some o ≡ true → (a : A) × (o ≡ Some a)
+pub some_there : {A : Type 0} (o : Option A) → is_some o ≡ true → (a : A) × (o ≡ Some a)
 some_there (Some a) e = (a, refl)
 some_there None e = absurd cc
 
@@ -266,10 +266,10 @@ module _ (s : Scope) (paths : List (List ℕ)) (arguments : List Sort) (result :
       same_built : of_case.constructor_ ≡ b.constructor_
       same_built = same_constructor (well.tells b.identity (ghosts.Constructor of_case.constructor_) (ghosts.Constructor b.constructor_) (subst (λ (c : Identity). Declares D c (ghosts.Constructor of_case.constructor_)) h.named of_case.declares) b.declares)
 
-      abbrev Sorts_ : List Sort
-      Sorts_ = case_sorts Inner 0 M (h.written).pattern
+      abbrev NameSorts : List Sort
+      NameSorts = case_sorts Inner 0 M (h.written).pattern
 
-      sorts_same : Sorts_ ≡ map (instance 0 M) (b.constructor_).arguments
+      sorts_same : NameSorts ≡ map (instance 0 M) (b.constructor_).arguments
       sorts_same = ap (map (instance 0 M)) (of_case.arguments ∙ ap (λ (c : Constructor). c.arguments) same_built)
 
       names_counted : valuations.count b.parts ≡ y.names
@@ -280,11 +280,11 @@ module _ (s : Scope) (paths : List (List ℕ)) (arguments : List Sort) (result :
       within_aligned : IsAligned Within.locals
       within_aligned =
           length-append Inner.locals.names (map (λ (m : Name). m.text) (names_or_none (h.written).pattern.names))
-          ∙ ap₂ (λ (a c : ℕ). a + c) inner_aligned (length_mapped (λ (m : Name). m.text) (names_or_none (h.written).pattern.names) ∙ h.counted ∙ sym (length_mapped bound_local Sorts_))
-          ∙ sym (length-append Inner.locals.meanings (map bound_local Sorts_))
+          ∙ ap₂ (λ (a c : ℕ). a + c) inner_aligned (length_mapped (λ (m : Name). m.text) (names_or_none (h.written).pattern.names) ∙ h.counted ∙ sym (length_mapped bound_local NameSorts))
+          ∙ sym (length-append Inner.locals.meanings (map bound_local NameSorts))
 
-      all_have : HaveValues D sets (appended vs b.parts) (map (settled_at S g) (arguments ++ Sorts_))
-      all_have = have_appended D sets (settled_at S g) arguments Sorts_ vs b.parts (arguments_have S) (subst (λ (ts : List Sort). HaveValues D sets b.parts (map (settled_at S g) ts)) (sym sorts_same) (parts_have b S refl))
+      all_have : HaveValues D sets (appended vs b.parts) (map (settled_at S g) (arguments ++ NameSorts))
+      all_have = have_appended D sets (settled_at S g) arguments NameSorts vs b.parts (arguments_have S) (subst (λ (ts : List Sort). HaveValues D sets b.parts (map (settled_at S g) ts)) (sym sorts_same) (parts_have b S refl))
 
       pub case_has : TermKeepsSorts D i (of_arguments (appended vs b.parts)) sets y.result → HasValue D sets (value i (of_arguments (appended vs b.parts)) y.result) (placed g f result)
       case_has keeps =
@@ -292,7 +292,7 @@ module _ (s : Scope) (paths : List (List ℕ)) (arguments : List Sort) (result :
         where
           by : ValuePasses Within C result h.before (h.written).value h.behind → HasValue D sets (value i (of_arguments (appended vs b.parts)) (case_of C k' paths result M Inner (length h.before) h.written).result) (placed g f result)
           by (passes below_before q) =
-              let gives = gives_symbols Within n k' paths i sets g (arguments ++ Sorts_) (appended vs b.parts) within_aligned (sym (mapped_appended bound_local arguments Sorts_)) all_have in
+              let gives = gives_symbols Within n k' paths i sets g (arguments ++ NameSorts) (appended vs b.parts) within_aligned (sym (mapped_appended bound_local arguments NameSorts)) all_have in
               let follows = (readings_follow_in_sets sets S i (of_arguments (appended vs b.parts)) g gives).passed h.before h.behind result (place_of (h.written).value) (h.written).value q h.agrees in
               subst (HasValue D sets (value i (of_arguments (appended vs b.parts)) (case_of C k' paths result M Inner (length h.before) h.written).result)) (settled_plain S g f result known_result)
               (follows.has_value (subst (λ (c : Case). TermKeepsSorts D i (of_arguments (appended vs b.parts)) sets c.result) h.is keeps))

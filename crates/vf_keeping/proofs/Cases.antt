@@ -73,7 +73,7 @@ pub record Found (s : Scope) (d m : ℕ) (c : Context) (t : Sort) (k : Known) (p
   pub fits : is_some (case_number s d written.pattern) ≡ true
   pub counted : length (names_or_none written.pattern.names) ≡ length (case_sorts s 0 m written.pattern)
 
-same_case : {x y : Case} → Some x ≡ Some y → x ≡ y
+pub same_case : {x y : Case} → Some x ≡ Some y → x ≡ y
 same_case e = cc
 
 module _ (m : ℕ) (c : Context) (t : Sort) where

@@ -1,5 +1,5 @@
 -- The bodies of the definitions of items apply fixpoints with results of integers as such; so these keep sorts with numbers.
-use Rattle.std.proofs.Common.{◌≡◌, ℕ, zero, suc, Bool, true, false, cond, not, List, [], ◌∷◌, Option, Some, None, refl, sym, subst, ap, ◌∙◌}
+use Rattle.std.proofs.Common.{◌≡◌, ℕ, zero, suc, Bool, true, false, cond, not, List, [], ◌∷◌, Some, refl, sym, subst, ap, ◌∙◌}
 use Rattle.std.specs.Prelude.{is_some, slice_get}
 use Rattle.vf_tree.specs.Core.{Identity}
 use Rattle.vf_model.specs.Values.{same_identity}
@@ -35,14 +35,10 @@ use Rattle.vf_keeping.specs.Bodies.{IsWellDeclared, declared_at}
 use Rattle.vf_keeping.specs.Numbers.{BodyIsKinded, TermIsKinded}
 use Rattle.vf_keeping.specs.Applied.{AreOfIntegers, DefinedKeepIn, DefinedKeepSorts, DefinitionsAreKinded, IsSettingKinded}
 use Rattle.vf_keeping.proofs.Applied.{read_kinded}
-use Rattle.vf_keeping.proofs.Numbers.{IsFrom, definition_from, fixpoint_found, fixpoint_there, not_both, numbers_keep_in, same_fixpoint}
-
-some_there : {A : Type 0} (o : Option A) → is_some o ≡ true → (a : A) × (o ≡ Some a)
-some_there (Some a) e = (a, refl)
-some_there None e = absurd cc
-
-same_case : {x y : Case} → Some x ≡ Some y → x ≡ y
-same_case e = cc
+use Rattle.vf_keeping.proofs.Bodies.{some_there}
+use Rattle.vf_keeping.proofs.Cases.{same_case}
+use Rattle.vf_keeping.proofs.Recursion.{same_fixpoint}
+use Rattle.vf_keeping.proofs.Numbers.{IsFrom, definition_from, fixpoint_found, fixpoint_there, not_both, numbers_keep_in}
 
 -- ---- declared fixpoints
 of_integers : (s : Scope) (paths : List (List ℕ)) (items : List Item) (fs : List definitions.Fixpoint) → HaveDefinitions s paths items fs → IsWellDeclared (declared_at s paths) → AreOfIntegers (declared_at s paths) fs

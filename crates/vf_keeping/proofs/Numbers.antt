@@ -34,6 +34,7 @@ use Rattle.vf_keeping.specs.Recursion.{GivesKinds}
 use Rattle.vf_keeping.specs.Units.{EachIsWritten, IsWritten}
 use Rattle.vf_keeping.specs.Numbers.{BodyIsKinded, HeadIsKinded, NumbersKeepIn, NumbersKeepSorts, NumbersKeepValues, NumbersMeetDefinitions, TermIsKinded, TermsAreKinded, gives_integers, with_numbers}
 use Rattle.vf_keeping.proofs.Patterns.{meant_told}
+use Rattle.vf_keeping.proofs.Recursion.{same_fixpoint}
 use Rattle.vf_keeping.proofs.Units.{has_definition, in_first, in_mapped, in_second, own_kind, own_shown, own_there, unit_keeps_in}
 
 -- ---- values
@@ -199,8 +200,8 @@ item_from s paths item all (fixpoint {w} {n} {f} {b} e numbered defines) x there
       own_kind_is = own_shown f.result;
     })
 
-among_more : (s : Scope) (paths : List (List ℕ)) (all more_ : List definitions.Fixpoint) (x : definitions.Fixpoint) → ((y : definitions.Fixpoint) → Contains all y → Contains more_ y) → IsFrom s paths all x → IsFrom s paths more_ x
-among_more s paths all more_ x f h = record {
+among_more : (s : Scope) (paths : List (List ℕ)) (all others : List definitions.Fixpoint) (x : definitions.Fixpoint) → ((y : definitions.Fixpoint) → Contains all y → Contains others y) → IsFrom s paths all x → IsFrom s paths others x
+among_more s paths all others x f h = record {
   written = h.written;
   number = h.number;
   declared = h.declared;
@@ -217,9 +218,6 @@ pub definition_from : (s : Scope) (paths : List (List ℕ)) (items : List Item) 
 definition_from s paths items fs no_items x (k, l, is) = absurd (omega (arith, l))
 definition_from s paths items fs (more_items {x = item} {ds} {es} d h) x there =
     ⊎_elim (λ p. among_more s paths ds (ds ++ es) x (in_first ds es) (item_from s paths item ds d x p)) (λ q. among_more s paths es (ds ++ es) x (in_second ds es) (definition_from s paths _ es h x q)) (apart ds es x there)
-
-pub same_fixpoint : {a b : declaration.Fixpoint} → ghosts.Fixpoint a ≡ ghosts.Fixpoint b → a ≡ b
-same_fixpoint e = cc
 
 not_some : {A : Type 0} (o : Option A) → ((a : A) → o ≡ Some a → ⊥) → not (is_some o) ≡ true
 not_some None f = refl

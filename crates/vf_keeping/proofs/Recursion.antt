@@ -118,7 +118,7 @@ body_down d i sets r c n vs e (Switches p cases) earlier itself down =
     (let small = component_small i vs us n ts p e q in let whole : size (value_at vs p) ≡ suc (sizes us) = ap size is in omega (arith, small, whole)))
     y.result (down g y there)
 
-same_fixpoint : {a b : declaration.Fixpoint} → ghosts.Fixpoint a ≡ ghosts.Fixpoint b → a ≡ b
+pub same_fixpoint : {a b : declaration.Fixpoint} → ghosts.Fixpoint a ≡ ghosts.Fixpoint b → a ≡ b
 same_fixpoint e = cc
 
 module _ (sets : Sets) (s : Scope) (paths : List (List ℕ)) (i : Interpretation) (r : Ranks) (well : IsWellDeclared (declared_at s paths)) (each : EachIsKept s paths i r) (kinds : GivesKinds (declared_at s paths) i sets) where
