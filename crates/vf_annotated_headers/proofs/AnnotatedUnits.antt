@@ -46,7 +46,7 @@ stripped_items_are_the_same part xs (y ∷ ys) (outside_second w h) = by_item y 
 
 -- ---- whole units
 -- nothing is declared in front of the items of a unit
-nothing_declared : (f : Files) (xs : List Item) → IsBeginning (beginning f xs)
+pub nothing_declared : (f : Files) (xs : List Item) → IsBeginning (beginning f xs)
 nothing_declared f xs = record { names = refl; declarations = refl; tags = refl; structures = refl; locals = refl }
 
 -- which files are headers does not hang on the items

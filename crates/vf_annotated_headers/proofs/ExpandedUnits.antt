@@ -6,7 +6,7 @@ use Rattle.vf_annotated_headers.specs.ExpandedUnits.{ExpandedUnitsShowTheSame}
 use Rattle.vf_annotated_headers.proofs.AnnotatedUnits.{annotated_units_show_the_same}
 
 -- two tables by numbers have the same entry where they have the same item for its number
-same_entry : {A : Type 0} (f g : ℕ → List ℕ) (xs : List A) (k n : ℕ) → f (k + n) ≡ g (k + n) → slice_get (by_numbers f k xs) n ≡ slice_get (by_numbers g k xs) n
+pub same_entry : {A : Type 0} (f g : ℕ → List ℕ) (xs : List A) (k n : ℕ) → f (k + n) ≡ g (k + n) → slice_get (by_numbers f k xs) n ≡ slice_get (by_numbers g k xs) n
 same_entry f g [] k n e = refl
 same_entry f g (x ∷ xs) k zero e = let h : k + 0 ≡ k = omega arith in ap Some (subst (λ m. f m ≡ g m) h e)
 same_entry f g (x ∷ xs) k (suc n) e = let h : k + suc n ≡ suc k + n = omega arith in same_entry f g xs (suc k) n (subst (λ m. f m ≡ g m) h e)

@@ -1,2 +1,4 @@
 pub mod AnnotatedUnits
 pub mod ExpandedUnits
+pub mod AnnotatedGhosts
+pub mod ExpandedGhosts

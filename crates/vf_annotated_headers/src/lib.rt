@@ -1,9 +1,11 @@
-//! A header means the same to C text in every unit, whatever annotations stand in the units.
+//! A header means the same in every unit: to C text, whatever annotations stand in the units, and to annotations.
 //!
 //! Each law is the contract of a public function with an empty body.
 #![tactic(auto)]
 
+ghost use Rattle.vf_annotated_headers.specs.AnnotatedGhosts.{AnnotatedUnitsForeseeTheSame, AnnotatedUnitsShowTheSameGhosts};
 ghost use Rattle.vf_annotated_headers.specs.AnnotatedUnits.{AnnotatedUnitsShowTheSame, StrippedItemsAreTheSame};
+ghost use Rattle.vf_annotated_headers.specs.ExpandedGhosts.{ExpandedUnitsShowTheSameGhosts};
 ghost use Rattle.vf_annotated_headers.specs.ExpandedUnits.{ExpandedUnitsShowTheSame};
 
 /// Where the same items stand in a header, the same of them are left without annotations.
@@ -19,4 +21,24 @@ pub fn annotated_units_show_the_same()
 /// A header in which the same C text stands shows the same in two units that are expanded and accepted.
 pub fn expanded_units_show_the_same()
     ensures { ExpandedUnitsShowTheSame }
+{}
+
+/// A header in which the same items of annotations stand shows the same names of annotations in two units that are
+/// accepted.
+#[tactic(auto, using(crate::proofs::AnnotatedGhosts::annotated_units_show_the_same_ghosts))]
+pub fn annotated_units_show_the_same_ghosts()
+    ensures { AnnotatedUnitsShowTheSameGhosts }
+{}
+
+/// A header in which the same items of annotations stand shows the same names of annotations in two units that are
+/// expanded and accepted.
+#[tactic(auto, using(crate::proofs::ExpandedGhosts::expanded_units_show_the_same_ghosts))]
+pub fn expanded_units_show_the_same_ghosts()
+    ensures { ExpandedUnitsShowTheSameGhosts }
+{}
+
+/// A header in which the same items of annotations stand foresees the same predicates in front of the items of two units.
+#[tactic(auto, using(crate::proofs::AnnotatedGhosts::annotated_units_foresee_the_same))]
+pub fn annotated_units_foresee_the_same()
+    ensures { AnnotatedUnitsForeseeTheSame }
 {}

@@ -1,0 +1,20 @@
+-- Names of annotations mean the same in a header of every unit that is accepted.
+use Rattle.std.specs.Prelude.{ℕ, List, Ok}
+use Rattle.vf_declared.specs.declared.scope.Scope.{Scope}
+use Rattle.vf_syntax.specs.declared.item.Item.{Item}
+use Rattle.vf_resolve.specs.declared.files.Files.{Files}
+use Rattle.vf_resolve.specs.Beginning.{beginning}
+use Rattle.vf_resolve.specs.Units.{ItemsCome}
+use Rattle.vf_headers.specs.Parts.{is_part_of}
+use Rattle.vf_headers.specs.Units.{IsHeaderOfBoth}
+use Rattle.vf_ghost_headers.specs.Later.{ForeseeTheSame}
+use Rattle.vf_ghost_headers.specs.Same.{ShowTheSameGhosts}
+use Rattle.vf_ghost_headers.specs.Units.{HaveTheSameGhosts}
+
+-- where two units are accepted, and the same items of annotations stand in a header of both, the header shows the same names of annotations in both
+abbrev pub AnnotatedUnitsShowTheSameGhosts : Type 0
+AnnotatedUnitsShowTheSameGhosts = (header : ℕ) (f g : Files) (xs ys : List Item) (u v : Scope) → IsHeaderOfBoth header (beginning f xs) (beginning g ys) → HaveTheSameGhosts (is_part_of (beginning f xs) header) xs ys → ItemsCome xs (beginning f xs) (Ok u) → ItemsCome ys (beginning g ys) (Ok v) → ShowTheSameGhosts header u v
+
+-- where the same items of annotations stand in a header of two units, the header foresees the same predicates in front of the items of both
+abbrev pub AnnotatedUnitsForeseeTheSame : Type 0
+AnnotatedUnitsForeseeTheSame = (header : ℕ) (f g : Files) (xs ys : List Item) → IsHeaderOfBoth header (beginning f xs) (beginning g ys) → HaveTheSameGhosts (is_part_of (beginning f xs) header) xs ys → ForeseeTheSame header (beginning f xs) (beginning g ys)
