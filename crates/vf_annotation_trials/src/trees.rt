@@ -3,16 +3,22 @@
 use crate::units::{one_file, parsed};
 use std::alloc::Global;
 use std::test::Fail;
-use vf_base::{NumberList, RuleFault, Text};
+use vf_base::{Memory, NumberList, RuleFault, Text};
 use vf_env::{Env, describe};
 use vf_resolve::resolve;
 use vf_syntax::item::Unit;
 
+/// The path of the one file.
+fn one_path(alloc: Global) -> Result<Vec<Text>, Memory> {
+    let mut paths = Vec::new(alloc);
+    paths.push(Text::from_bytes(alloc, b"one.c")?)?;
+    Ok(paths)
+}
+
 /// What a unit declares, each name with its trees.
 fn described(alloc: Global, unit: &Unit) -> Result<Env, RuleFault> {
     let scope = resolve(alloc, one_file(alloc), &unit.items)?;
-    let mut paths = Vec::new(alloc);
-    paths.push(Text::from_bytes(alloc, b"one.c")?)?;
+    let paths = one_path(alloc)?;
     describe(alloc, scope, &paths, &unit.items)
 }
 
@@ -148,7 +154,9 @@ fn fixpoints(rt: HostRuntime) -> Result<(), Fail> {
     let env = found(rt.alloc(), ONCE)?;
     assert_eq!(rt; env.definitions.as_slice().len(), 1);
     for fixpoint in env.definitions.as_slice() {
-        assert!(rt; fixpoint.identity.as_bytes() == b"one.c#length" && fixpoint.parameters == 1);
+        assert!(rt;
+            fixpoint.identity.as_bytes() == b"one.c#length".as_slice() && fixpoint.parameters == 1
+        );
     }
     let env = found(rt.alloc(), AGAIN)?;
     assert!(rt; env.definitions.as_slice().is_empty());
