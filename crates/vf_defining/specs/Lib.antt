@@ -1,4 +1,5 @@
 pub mod Symbols
 pub mod Bodies
 pub mod Fixpoints
+pub mod UpTo
 pub mod Units

@@ -27,6 +27,7 @@ use Rattle.vf_equations.specs.Fixpoints.{EquationsCome}
 use Rattle.vf_definitions.specs.declared.fixpoint.Body.{Body}
 use Rattle.vf_definitions.specs.declared.fixpoint.Fixpoint as definitions
 use Rattle.vf_defining.specs.Symbols.{without_locals}
+use Rattle.vf_defining.specs.UpTo.{up_to}
 use Rattle.vf_defining.specs.Bodies.{identity_at}
 use Rattle.vf_defining.specs.Fixpoints.{Defines}
 
@@ -68,15 +69,15 @@ pub record IsNumbered (s : Scope) (w : Written) (n : ℕ) (f : declared.Fixpoint
   pub means : declaration_of s w.name.text w.name.place.file ≡ Some (meanings.Ghost n)
   pub is : ghost_of s n ≡ Some (ghosts.Fixpoint f)
 
--- An item has these definitions: one for each kind of applications of a fixpoint, whose body is defined where its parameters are the locals; every other item has none
+-- An item has these definitions: one for each kind of applications of a fixpoint, whose body is defined where its parameters are the locals and its name is the last of file level; every other item has none
 pub data ItemDefines (s : Scope) (paths : List (List ℕ)) : Item → List definitions.Fixpoint → Type 0 where
   other_item : {x : Item} → written_in x ≡ None → ItemDefines s paths x []
   stray_item : {x : Item} {w : Written} → written_in x ≡ Some w → ((n : ℕ) (f : declared.Fixpoint) → IsNumbered s w n f → ⊥) → ItemDefines s paths x []
-  fixpoint : {x : Item} {w : Written} {n : ℕ} {f : declared.Fixpoint} {b : Body} → written_in x ≡ Some w → IsNumbered s w n f → Defines (within_fixpoint s w.parameters f.arguments) paths n w.body b → ItemDefines s paths x (map (definition_of s paths w b) (kinds_of_sort f.result))
+  fixpoint : {x : Item} {w : Written} {n : ℕ} {f : declared.Fixpoint} {b : Body} → written_in x ≡ Some w → IsNumbered s w n f → Defines (within_fixpoint (up_to w.name s) w.parameters f.arguments) paths n w.body b → ItemDefines s paths x (map (definition_of s paths w b) (kinds_of_sort f.result))
 
--- the body of a fixpoint is refused, once all names of the unit count
+-- the body of a fixpoint is refused where its parameters are the locals and its name is the last of file level
 pub data ItemIsRefused (s : Scope) : Item → Refusal → Type 0 where
-  its_body : {x : Item} {w : Written} {n : ℕ} {f : declared.Fixpoint} {r : Refusal} → written_in x ≡ Some w → IsNumbered s w n f → EquationsCome (count (within_fixpoint s w.parameters f.arguments)) n (within_fixpoint s w.parameters f.arguments) w.body (Err r) → ItemIsRefused s x r
+  its_body : {x : Item} {w : Written} {n : ℕ} {f : declared.Fixpoint} {r : Refusal} → written_in x ≡ Some w → IsNumbered s w n f → EquationsCome (count (within_fixpoint (up_to w.name s) w.parameters f.arguments)) n (within_fixpoint (up_to w.name s) w.parameters f.arguments) w.body (Err r) → ItemIsRefused s x r
 
 -- items have the definitions of each, in their order
 pub data HaveDefinitions (s : Scope) (paths : List (List ℕ)) : List Item → List definitions.Fixpoint → Type 0 where
