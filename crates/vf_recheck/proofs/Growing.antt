@@ -20,7 +20,7 @@ pub record GoesOnTo (ts now : List Term) : Type 0 where
   pub more : List Term
   pub is : now ≡ ts ++ more
 
-on_through : (ts us vs : List Term) → GoesOnTo ts us → GoesOnTo us vs → GoesOnTo ts vs
+pub on_through : (ts us vs : List Term) → GoesOnTo ts us → GoesOnTo us vs → GoesOnTo ts vs
 on_through ts us vs h k = record { more = h.more ++ k.more; is = k.is ∙ ap (λ ws. ws ++ k.more) h.is ∙ append_assoc ts h.more k.more }
 
 on_by : (b : Bool) (t : Term) (ts : List Term) → GoesOnTo ts (cond b ts (ts ++ t ∷ []))

@@ -4,3 +4,4 @@ pub mod Reading
 pub mod Growing
 pub mod Following
 pub mod Turns
+pub mod Coming

@@ -1,3 +1,4 @@
 pub mod Closure
 pub mod Refutations
+pub mod Posed
 pub mod Laws

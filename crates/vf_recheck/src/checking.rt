@@ -1,15 +1,17 @@
 //! The check of a refutation.
 
-ghost use Rattle.std.specs.Prelude.{◌≡◌, ◌↔◌, map, All, IsTrue, IfOk};
+ghost use Rattle.std.specs.Prelude.{◌≡◌, ◌↔◌, List, map, All, IsTrue, IfOk};
+ghost use Rattle.vf_closure.specs.Literals as pure;
 ghost use Rattle.vf_formula.specs.Literals.{shown_literal};
 ghost use Rattle.vf_question.specs.Plain.{IsPlain, IsPlainLiteral};
 ghost use Rattle.vf_interning.specs.Interned.{IsTermTable};
 ghost use Rattle.vf_recheck.specs.Closure.{HasConflict};
-ghost use Rattle.vf_recheck.specs.Refutations.{GoesOn, Ends, IsTold, IsRefutation};
+ghost use Rattle.vf_recheck.specs.Posed.{IsPosed};
+ghost use Rattle.vf_question.specs.Numbered.{all_terms};
+ghost use Rattle.vf_recheck.specs.Refutations.{GoesOn, Ends, IsTold, IsRefutation, facts_over};
 
 use crate::ending::ends;
-use crate::facts::facts_over;
-use crate::numbering::number_all;
+use crate::posing::{Posed, question_of};
 use crate::steps::Step;
 use crate::unfolding::{by_case, to_body};
 use std::alloc::Global;
@@ -56,6 +58,53 @@ fn is_end(nodes: &[Node], terms: &[Term], facts: &[Fact], known: &[Derived], ste
     }
 }
 
+/// Goes over the steps once, over a table of terms and 0 and facts over it.
+fn check<U: Unfolder>(
+    alloc: Global,
+    unfolder: &U,
+    nodes: &mut Vec<Node>,
+    terms: &mut Vec<Term>,
+    facts: &[Fact],
+    steps: &[Step],
+) -> Result<bool, Memory>
+    requires table { IsTermTable nodes.old.items terms.old.items }
+    requires plain { All IsPlain terms.old.items }
+    ensures { IfOk result (λ yes. (literals : List pure.Literal) → terms.old.items ≡ all_terms literals → facts.now ≡ facts_over literals → IsTrue yes ↔ IsRefutation (U.unfoldings unfolder.now) literals steps.now) }
+{
+    let mut known: Vec<Derived> = Vec::new(alloc);
+    for (i, step) in steps.iter().enumerate() {
+        if i + 1 == steps.len() {
+            return Ok(is_end(nodes, terms, facts, &known, step));
+        }
+        match go_on(alloc, unfolder, nodes, terms, facts, &known, step)? {
+            Some(derived) => known.push(derived)?,
+            None => return Ok(false),
+        }
+    }
+    Ok(false)
+}
+
+/// Whether steps refute the literals of a question, as [`recheck`] says. The terms of what they unfold are numbered
+/// behind the question's.
+pub fn recheck_posed<U: Unfolder>(
+    alloc: Global,
+    unfolder: &U,
+    question: &mut Posed,
+    steps: &[Step],
+) -> Result<bool, Memory>
+    requires { (literals : List pure.Literal) × IsPosed literals question.old × All IsPlainLiteral literals }
+    ensures { IfOk result (λ yes. (literals : List pure.Literal) → IsPosed literals question.old → IsTrue yes ↔ IsRefutation (U.unfoldings unfolder.now) literals steps.now) }
+{
+    check(
+        alloc,
+        unfolder,
+        &mut question.nodes,
+        &mut question.terms,
+        &question.facts,
+        steps,
+    )
+}
+
 /// Whether steps refute some literals, the facts and the negation of a goal: each but the last derives
 /// something from the literals and from earlier steps, or by unfolding an application, and the last, and
 /// no other, names a conflict.
@@ -69,21 +118,6 @@ pub fn recheck<U: Unfolder>(
     ensures exact { IfOk result (λ yes. IsTrue yes ↔ IsRefutation (U.unfoldings unfolder.now) (map shown_literal literals.now) steps.now) }
     ensures sound { IfOk result (λ yes. IsTrue yes → HasConflict (U.unfoldings unfolder.now) (map shown_literal literals.now)) }
 {
-    let mut nodes = Vec::new(alloc);
-    let mut terms = Vec::new(alloc);
-    number_all(alloc, &mut nodes, &mut terms, literals)?;
-    let facts = facts_over(alloc, &terms, literals)?;
-    let mut known: Vec<Derived> = Vec::new(alloc);
-    for (i, step) in steps.iter().enumerate() {
-        if i + 1 == steps.len() {
-            return Ok(is_end(&nodes, &terms, &facts, &known, step));
-        }
-        match go_on(
-            alloc, unfolder, &mut nodes, &mut terms, &facts, &known, step,
-        )? {
-            Some(derived) => known.push(derived)?,
-            None => return Ok(false),
-        }
-    }
-    Ok(false)
+    let mut question = question_of(alloc, literals)?;
+    recheck_posed(alloc, unfolder, &mut question, steps)
 }

@@ -20,7 +20,7 @@ fn number(terms: &[Term], term: &Term) -> u32
 }
 
 /// A literal as a fact over the numbers of some terms.
-fn fact(terms: &[Term], literal: &Literal) -> Fact
+pub(crate) fn fact(terms: &[Term], literal: &Literal) -> Fact
     requires { length terms.now < 2 ^ 32 }
     ensures { result ≡ tabled_fact terms.now (shown_literal literal.now) }
 {

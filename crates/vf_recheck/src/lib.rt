@@ -12,14 +12,18 @@ mod facts;
 mod heads;
 mod laws;
 mod numbering;
+mod posing;
 mod steps;
+mod tables;
 mod unfolding;
 
-pub use checking::recheck;
+pub use checking::{recheck, recheck_posed};
 pub use facts::facts_over;
 pub use laws::{
     conflicts_are_met_by_none, definitions_entail, refutations_are_sound,
     refutations_show_conflicts,
 };
 pub use numbering::{number_all, number_term};
+pub use posing::{Posed, question_of};
 pub use steps::{Refutation, Step};
+pub use tables::Tables;

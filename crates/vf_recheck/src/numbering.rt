@@ -110,7 +110,7 @@ fn number_both(
 }
 
 /// Numbers the terms that a literal compares.
-fn number_literal(
+pub(crate) fn number_literal(
     alloc: Global,
     nodes: &mut Vec<Node>,
     terms: &mut Vec<Term>,
@@ -147,6 +147,23 @@ fn number_literals(
     Ok(())
 }
 
+/// Numbers 0.
+pub(crate) fn number_zero(
+    alloc: Global,
+    nodes: &mut Vec<Node>,
+    terms: &mut Vec<Term>,
+) -> Result<(), Memory>
+    requires table { IsTermTable nodes.old.items terms.old.items }
+    ensures table { IfOk result (λ _. IsTermTable nodes.new.items terms.new.items) }
+    ensures terms { OnOk result (terms.new.items ≡ with_term (number (pos 0)) terms.old.items) }
+{
+    let zero = Term::of_number(alloc, 0);
+    match number_term(alloc, nodes, terms, &zero) {
+        Ok(_) => Ok(()),
+        Err(fault) => Err(fault),
+    }
+}
+
 /// Numbers the terms of some literals, and 0 behind them, in an empty table.
 pub fn number_all(
     alloc: Global,
@@ -160,9 +177,5 @@ pub fn number_all(
     ensures terms { OnOk result (terms.new.items ≡ all_terms (map shown_literal literals.now)) }
 {
     number_literals(alloc, nodes, terms, literals)?;
-    let zero = Term::of_number(alloc, 0);
-    match number_term(alloc, nodes, terms, &zero) {
-        Ok(_) => Ok(()),
-        Err(fault) => Err(fault),
-    }
+    number_zero(alloc, nodes, terms)
 }
