@@ -5,7 +5,7 @@ use Rattle.vf_question.specs.declared.question.Question.{Question}
 use Rattle.vf_question.proofs.Bounded.{small, fine}
 use Rattle.vf_question.proofs.Plainness.{bounded}
 use Rattle.vf_reasons.proofs.Asking.{copies_are, told}
-use Rattle.vf_reasons.proofs.questions.refutation_over.Goals as goal
+use Rattle.vf_reasons.proofs.questions.long_refutation.Goals as goal
 
 pub refutation-requires-clause-parts : goal.refutation-requires-clause-parts
 refutation-requires-clause-parts c =
