@@ -9,16 +9,9 @@ use Rattle.vf_recheck.specs.Refutations.{IsRefutation}
 use Rattle.vf_answer.specs.Answers.{IsAnswer}
 use Rattle.vf_answer.specs.declared.answer.Answer.TheVariants as answers
 use Rattle.vf_asking.specs.declared.answers.Answer.TheVariants.{Proved}
-use Rattle.vf_asking.specs.declared.journal.Journal.{Journal}
 use Rattle.vf_asking.specs.Journal.{Asked}
-use Rattle.vf_prover.specs.declared.explaining.Explained.{Explained}
-use Rattle.vf_prover.specs.declared.explaining.Explained.TheVariants as explained_
-
--- What a contract sees of a prover that hands over refutations: its journal, how many entries that held when the prover was made, and how many when it was last asked for a refutation
-pub record Explaining : Type 0 where
-  pub journal : Journal
-  pub origin : ℕ
-  pub handed : ℕ
+use Rattle.vf_prover.specs.declared.deciding.Explained.{Explained}
+use Rattle.vf_prover.specs.declared.deciding.Explained.TheVariants as explained_
 
 -- an answer to a question is right, and where it is Proved its refutation refutes the goal's negation beside the facts
 abbrev pub IsExplained : Unfoldings → List Literal → Literal → Explained → Type 0

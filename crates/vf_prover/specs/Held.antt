@@ -7,10 +7,11 @@ use Rattle.vf_asking.specs.declared.journal.Journal.{Journal}
 use Rattle.vf_asking.specs.Journal.{definitions_at}
 use Rattle.vf_asking.specs.Right.{IsRight}
 
--- its journal, and how many entries that held when the prover was made
+-- its journal, how many entries that held when the prover was made, and how many when it was last asked for a refutation
 pub record Held : Type 0 where
   pub journal : Journal
   pub origin : ℕ
+  pub handed : ℕ
 
 -- the definitions of the unit begun last
 abbrev pub last_definitions : List (List Fixpoint) → List Fixpoint

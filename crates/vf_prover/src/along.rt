@@ -1,5 +1,6 @@
 //! A path that goes from node to node.
 
+ghost use Rattle.std.specs.Vec.{vec_len, vec_capacity};
 ghost use Rattle.std.specs.Prelude.{◌≡◌, ◌≤◌, ◌<◌, ◌+◌, ◌++◌, ◌∷◌, [], ℕ, List, length, take, IsTrue, ◌↔◌, IfOk, OnOk, OnErr, All, map, slice_index};
 ghost use Rattle.vf_closure.specs.Closure.{Unfoldings};
 ghost use Rattle.vf_formula.specs.declared.literal.Literal as declared;
@@ -8,7 +9,8 @@ ghost use Rattle.vf_asking.specs.Journal.{path_to};
 ghost use Rattle.vf_asking.specs.Whole.{ArePlainFacts};
 ghost use Rattle.vf_question.specs.Numbered.{terms_of};
 ghost use Rattle.vf_unfolding.specs.Rounds.{AreEnough};
-ghost use Rattle.vf_prover.specs.Along.{from_root, IsChild, LeadTo, IsAlong, HasCome};
+ghost use Rattle.vf_trail.specs.declared.node.Node.{Node};
+ghost use Rattle.vf_prover.specs.Along.{from_root, IsChild, LeadTo, IsAlong, StandBy, HasCome};
 
 use crate::line::{line_to, shared};
 use std::alloc::Global;
@@ -101,4 +103,25 @@ pub(crate) fn go_to(
     step_back(path, nodes, keep);
     descend(trail, definitions, path, nodes, &line)?;
     Ok(path.count() <= MOST_TERMS)
+}
+
+/// Takes the path that is kept, or makes one that stands at the root.
+pub(crate) fn take_path(
+    trail: &Trail<Literal>,
+    definitions: &Definitions,
+    paths: &mut Vec<Path>,
+) -> Result<Path, Memory>
+    ensures along { IfOk result (λ w. (facts : List (ℕ × declared.Literal)) (nodes : List Node) → StandBy (unfoldings_of definitions.now) facts paths.old.items nodes → IsAlong (unfoldings_of definitions.now) facts nodes w) }
+    ensures taken { length paths.old.items ≤ 1 → paths.new.items ≡ [] }
+    ensures none { OnErr result (paths.old.items ≡ []) }
+    ensures fewer { vec_len paths.new ≤ vec_len paths.old }
+    ensures room { vec_capacity paths.new ≡ vec_capacity paths.old }
+{
+    match paths.pop() {
+        Some(path) => Ok(path),
+        None => {
+            let path = Path::new(trail.allocator(), definitions)?;
+            Ok(path)
+        }
+    }
 }

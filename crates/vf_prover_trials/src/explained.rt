@@ -12,7 +12,7 @@ use vf_asking::{Asker, Journal};
 use vf_base::RuleFault;
 use vf_definitions::Definitions;
 use vf_formula::Literal;
-use vf_prover::{Explain, Explainer};
+use vf_prover::{Explain, Prover};
 use vf_question::are_plain;
 use vf_recheck::{Step, recheck};
 use vf_trail::Node;
@@ -98,12 +98,12 @@ fn judged_of(
 fn handed_over(
     alloc: Global,
     definitions: &Definitions,
-    explainer: &mut Explainer,
+    prover: &mut Prover,
     asked: Question,
 ) -> Result<Handed, NoAnswer>
-    ensures grew { Grew explainer.old.journal explainer.new.journal }
+    ensures grew { Grew prover.old.journal prover.new.journal }
 {
-    match explainer.last() {
+    match prover.last() {
         Some(refutation) => judged_of(alloc, definitions, asked, &refutation.steps),
         None => Ok(Handed::Nothing),
     }
@@ -114,18 +114,18 @@ fn handed_over(
 fn outcome_behind(
     alloc: Global,
     definitions: &Definitions,
-    explainer: &mut Explainer,
+    prover: &mut Prover,
     at: Node,
     asked: Question,
 ) -> Result<Outcome, NoAnswer>
-    requires begun { 0 < length explainer.old.journal.units }
-    requires there { HasNode explainer.old.journal at }
-    ensures grew { Grew explainer.old.journal explainer.new.journal }
+    requires begun { 0 < length prover.old.journal.units }
+    requires there { HasNode prover.old.journal at }
+    ensures grew { Grew prover.old.journal prover.new.journal }
 {
-    let node = hang(alloc, explainer, at, asked.facts)?;
-    let proved = is_proved(alloc, explainer, node, asked.goal)?;
-    let handed = handed_over(alloc, definitions, explainer, asked)?;
-    let again = handed_over(alloc, definitions, explainer, asked)?;
+    let node = hang(alloc, prover, at, asked.facts)?;
+    let proved = is_proved(alloc, prover, node, asked.goal)?;
+    let handed = handed_over(alloc, definitions, prover, asked)?;
+    let again = handed_over(alloc, definitions, prover, asked)?;
     Ok(Outcome {
         proved,
         handed,
@@ -133,16 +133,16 @@ fn outcome_behind(
     })
 }
 
-/// What comes of a question that a new explainer is asked.
+/// What comes of a question that a new prover is asked.
 #[tactic(auto, using(vf_asking::proofs::Seeing::beginning))]
 fn outcome_with(
     alloc: Global,
     definitions: &Definitions,
     asked: Question,
 ) -> Result<Outcome, NoAnswer> {
-    let mut explainer = Explainer::new(Journal::new(alloc));
-    match explainer.begin(definitions) {
-        Ok(root) => outcome_behind(alloc, definitions, &mut explainer, root, asked),
+    let mut prover = Prover::new(Journal::new(alloc));
+    match prover.begin(definitions) {
+        Ok(root) => outcome_behind(alloc, definitions, &mut prover, root, asked),
         Err(_) => Err(NoAnswer::Fault(RuleFault::Memory)),
     }
 }
@@ -153,36 +153,36 @@ pub(crate) fn outcome_of(alloc: Global, asked: Question) -> Result<Outcome, NoAn
     outcome_with(alloc, &definitions, asked)
 }
 
-/// What comes of questions that one explainer is asked in turn; the facts of each hang on the root.
+/// What comes of questions that one prover is asked in turn; the facts of each hang on the root.
 #[tactic(auto, using(vf_asking::proofs::Seeing::grown))]
 fn outcomes_behind(
     alloc: Global,
     definitions: &Definitions,
-    explainer: &mut Explainer,
+    prover: &mut Prover,
     root: Node,
     questions: &[Question],
 ) -> Result<Vec<Outcome>, NoAnswer>
-    requires begun { 0 < length explainer.old.journal.units }
-    requires there { HasNode explainer.old.journal root }
+    requires begun { 0 < length prover.old.journal.units }
+    requires there { HasNode prover.old.journal root }
 {
     let mut outcomes = Vec::new(alloc);
     for asked in questions {
-        let outcome = outcome_behind(alloc, definitions, explainer, root, *asked)?;
+        let outcome = outcome_behind(alloc, definitions, prover, root, *asked)?;
         outcomes.push(outcome)?;
     }
     Ok(outcomes)
 }
 
-/// The same, of a new explainer.
+/// The same, of a new prover.
 #[tactic(auto, using(vf_asking::proofs::Seeing::beginning))]
 fn outcomes_with(
     alloc: Global,
     definitions: &Definitions,
     questions: &[Question],
 ) -> Result<Vec<Outcome>, NoAnswer> {
-    let mut explainer = Explainer::new(Journal::new(alloc));
-    match explainer.begin(definitions) {
-        Ok(root) => outcomes_behind(alloc, definitions, &mut explainer, root, questions),
+    let mut prover = Prover::new(Journal::new(alloc));
+    match prover.begin(definitions) {
+        Ok(root) => outcomes_behind(alloc, definitions, &mut prover, root, questions),
         Err(_) => Err(NoAnswer::Fault(RuleFault::Memory)),
     }
 }
@@ -207,30 +207,30 @@ struct Turn<'a> {
 fn handed_behind(
     alloc: Global,
     definitions: &Definitions,
-    explainer: &mut Explainer,
+    prover: &mut Prover,
     root: Node,
     turn: Turn,
 ) -> Result<Handed, NoAnswer>
-    requires begun { 0 < length explainer.old.journal.units }
-    requires there { HasNode explainer.old.journal root }
+    requires begun { 0 < length prover.old.journal.units }
+    requires there { HasNode prover.old.journal root }
 {
-    let node = hang(alloc, explainer, root, turn.facts)?;
-    is_proved(alloc, explainer, node, turn.first)?;
-    is_proved(alloc, explainer, node, turn.last)?;
-    hang(alloc, explainer, node, turn.more)?;
+    let node = hang(alloc, prover, root, turn.facts)?;
+    is_proved(alloc, prover, node, turn.first)?;
+    is_proved(alloc, prover, node, turn.last)?;
+    hang(alloc, prover, node, turn.more)?;
     let asked = Question {
         facts: turn.facts,
         goal: turn.last,
     };
-    handed_over(alloc, definitions, explainer, asked)
+    handed_over(alloc, definitions, prover, asked)
 }
 
-/// The same, of a new explainer.
+/// The same, of a new prover.
 #[tactic(auto, using(vf_asking::proofs::Seeing::beginning))]
 fn handed_with(alloc: Global, definitions: &Definitions, turn: Turn) -> Result<Handed, NoAnswer> {
-    let mut explainer = Explainer::new(Journal::new(alloc));
-    match explainer.begin(definitions) {
-        Ok(root) => handed_behind(alloc, definitions, &mut explainer, root, turn),
+    let mut prover = Prover::new(Journal::new(alloc));
+    match prover.begin(definitions) {
+        Ok(root) => handed_behind(alloc, definitions, &mut prover, root, turn),
         Err(_) => Err(NoAnswer::Fault(RuleFault::Memory)),
     }
 }
@@ -410,7 +410,7 @@ fn the_last_is_handed_over(rt: HostRuntime) -> Result<(), Fail> {
     Ok(())
 }
 
-/// One explainer is asked one question after another, each behind facts of its own, and hands over each refutation.
+/// One prover is asked one question after another, each behind facts of its own, and hands over each refutation.
 #[test]
 fn each_is_handed_over(rt: HostRuntime) -> Result<(), Fail> {
     let x = Side::Integer(0);

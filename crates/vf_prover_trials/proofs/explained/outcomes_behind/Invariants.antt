@@ -4,6 +4,6 @@ use Rattle.vf_prover_trials.proofs.explained.outcomes_behind.Given as goal
 
 abbrev pub invariant-loop-asked : goal.invariant-loop-asked
 invariant-loop-asked l = record {
-  begun : 0 < length l.explainer.journal.units;
-  there : HasNode l.explainer.journal l.root;
+  begun : 0 < length l.prover.journal.units;
+  there : HasNode l.prover.journal l.root;
 }

@@ -4,7 +4,7 @@ use Rattle.vf_formula.specs.Literals.{shown_literal}
 use Rattle.vf_question.specs.Plain.{IsPlainLiteral}
 use Rattle.vf_asking.specs.Journal.{path_to}
 use Rattle.vf_prover.proofs.Answering.{path_plain, too_many_on_path}
-use Rattle.vf_prover.proofs.explaining.explain_along.Goals as goal
+use Rattle.vf_prover.proofs.deciding.explain_along.Goals as goal
 
 pub explain_here-requires-clause-facts : goal.explain_here-requires-clause-facts
 explain_here-requires-clause-facts c = subst (All IsPlainLiteral) (sym (c.in_ok-few.ensures.facts c.if-few.true)) (path_plain c.args.trail.now.facts c.args.at.number c.requires.facts)

@@ -3,7 +3,7 @@ use Rattle.vf_definitions.specs.Unfolded.{unfoldings_of}
 use Rattle.vf_unfolding.specs.Walked.{Walked}
 use Rattle.vf_prover.specs.Along.{StandBy}
 use Rattle.vf_prover.proofs.Stepping.{at_root}
-use Rattle.vf_prover.proofs.deciding.take_path.Goals as goal
+use Rattle.vf_prover.proofs.along.take_path.Goals as goal
 
 pub returns-in_ok-path-in-None-clause-along : goal.returns-in_ok-path-in-None-clause-along
 returns-in_ok-path-in-None-clause-along c = λ facts nodes h.

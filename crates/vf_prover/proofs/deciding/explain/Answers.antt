@@ -7,7 +7,7 @@ use Rattle.vf_asking.specs.Journal.{HasNode, path_to, path_at}
 use Rattle.vf_prover.specs.Along.{StandBy}
 use Rattle.vf_prover.specs.Explained.{IsExplained}
 use Rattle.vf_prover.proofs.Answering.{last_is}
-use Rattle.vf_prover.proofs.explaining.explain.Goals as goal
+use Rattle.vf_prover.proofs.deciding.explain.Goals as goal
 
 pub explain_from-requires-clause-there : goal.explain_from-requires-clause-there
 unfolding HasNode

@@ -3,7 +3,7 @@ use Rattle.vf_definitions.specs.Unfolded.{unfoldings_of}
 use Rattle.vf_unfolding.specs.Walked.{Walked}
 use Rattle.vf_prover.specs.Along.{StandBy}
 use Rattle.vf_prover.proofs.Stepping.{at_most_one}
-use Rattle.vf_prover.proofs.explaining.explain_from.Goals as goal
+use Rattle.vf_prover.proofs.deciding.explain_from.Goals as goal
 
 pub returns-clause-standing : goal.returns-clause-standing
 returns-clause-standing c =
