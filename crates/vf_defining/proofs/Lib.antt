@@ -1,3 +1,4 @@
 pub mod Lists
+pub mod UpTo
 pub mod Defined
 pub mod Adding

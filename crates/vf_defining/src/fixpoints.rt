@@ -94,8 +94,7 @@ fn switch_defined(
 ///
 /// # Errors
 ///
-/// Refused where the body is refused once all names of the unit count: in a unit that was accepted a name that is
-/// declared behind the fixpoint may do that.
+/// Refused where the body is refused with what is declared there.
 pub(crate) fn define_body(
     alloc: Global,
     scope: &mut Scope,

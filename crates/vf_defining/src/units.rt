@@ -1,21 +1,23 @@
 //! The fixpoints of a unit as definitions.
 
-ghost use Rattle.std.specs.Prelude.{◌≡◌, ℕ, ◌++◌, map, IfOk, OnOk, MatchOption};
+ghost use Rattle.std.specs.Prelude.{◌≡◌, ℕ, [], ◌++◌, map, IfOk, OnOk, MatchOption};
 ghost use Rattle.std.specs.Option.{option_map};
 ghost use Rattle.vf_declared.specs.declared.declaration.Fixpoint as fixpoints;
 ghost use Rattle.vf_syntax.specs.declared.item.GhostParameter as rows;
 ghost use Rattle.vf_formula.specs.declared.head.Kind as kinds;
 ghost use Rattle.vf_defining.specs.Symbols.{without_locals};
+ghost use Rattle.vf_defining.specs.UpTo.{AreFirst, with_level};
 ghost use Rattle.vf_defining.specs.Units.{AreDefined, IsAdded, IsNumbered, kinds_of_sort, written_form, written_in, written_of};
 
 use crate::bodies::identity_at;
 use crate::fixpoints::define_body;
+use crate::up_to::{FileLevel, keep_up_to};
 use std::alloc::Global;
 use vf_base::{Memory, RuleFault, Sequence, Text};
 use vf_binding::bound::{Bound, declare_names};
 use vf_declared::declaration::{Fixpoint as DeclaredFixpoint, GhostDeclaration, Meaning};
-use vf_declared::locals::Locals;
 use vf_declared::scope::Scope;
+use vf_declared::stack::Stack;
 use vf_definitions::{Body, Definitions, Fixpoint};
 use vf_formula::Kind;
 use vf_names::Names;
@@ -125,22 +127,28 @@ fn add(
     }
 }
 
-/// Adds the definitions of an item. Locals may be others behind it.
+/// Adds the definitions of an item, where some first of the names of file level are declared. These and the locals may
+/// be others behind it.
 #[tactic(auto, using(crate::proofs::Adding::memory, crate::proofs::Adding::other, crate::proofs::Adding::stray, crate::proofs::Adding::refused, crate::proofs::Adding::added))]
 fn item_defined(
     alloc: Global,
     scope: &mut Scope,
+    level: &FileLevel,
     paths: &[Text],
     item: &Item,
     into: &mut Definitions,
 ) -> Result<(), RuleFault>
-    ensures added { IsAdded (without_locals scope.old) paths.now item.now into.old into.new result }
-    ensures rest { OnOk result (without_locals scope.new ≡ without_locals scope.old) }
+    requires names { AreFirst level.now.names scope.old.names }
+    requires declarations { AreFirst level.now.declarations scope.old.declarations }
+    ensures added { IsAdded (with_level scope.old level.now) paths.now item.now into.old into.new result }
+    ensures rest { OnOk result (with_level scope.new level.now ≡ with_level scope.old level.now) }
+    ensures names { OnOk result (AreFirst level.now.names scope.new.names) }
+    ensures declarations { OnOk result (AreFirst level.now.declarations scope.new.declarations) }
 {
     let Some(written) = written_in(item) else {
         return Ok(());
     };
-    scope.locals = Locals::new(alloc);
+    keep_up_to(alloc, scope, level, written.name)?;
     let Some((number, fixpoint)) = numbered(scope, &written) else {
         return Ok(());
     };
@@ -154,13 +162,39 @@ fn item_defined(
     Ok(())
 }
 
+/// The definitions of items, where no names of file level are declared. These and the locals may be others behind them.
+fn items_defined(
+    alloc: Global,
+    scope: &mut Scope,
+    level: &FileLevel,
+    paths: &[Text],
+    items: &Sequence<Item>,
+) -> Result<Definitions, RuleFault>
+    requires names { scope.old.names ≡ [] }
+    requires declarations { scope.old.declarations ≡ [] }
+    ensures defined { AreDefined (with_level scope.old level.now) paths.now items.now result }
+    ensures rest { OnOk result (with_level scope.new level.now ≡ with_level scope.old level.now) }
+{
+    let mut all = Definitions::new(alloc);
+    for at in 0..items.len() {
+        let Some(item) = items.get(at) else {
+            return Ok(all);
+        };
+        item_defined(alloc, scope, level, paths, item, &mut all)?;
+    }
+    Ok(all)
+}
+
 /// The fixpoints that the items of a unit declare, as definitions, where all of it is declared. The paths
 /// are those of its files, by their numbers. Of what is declared locals alone may be others behind it.
 ///
+/// The names of file level are taken out and come back one by one, so that in the body of each fixpoint those count that
+/// were declared up to it.
+///
 /// # Errors
 ///
-/// Refused where the body of a fixpoint is refused once all names of the unit count: in a unit that was accepted a name
-/// that is declared behind the fixpoint may do that.
+/// Refused where the body of a fixpoint is refused with the names that were declared up to it: in a unit that was
+/// accepted, and whose files see through each other, no body is.
 pub fn definitions(
     alloc: Global,
     scope: &mut Scope,
@@ -170,12 +204,14 @@ pub fn definitions(
     ensures defined { AreDefined (without_locals scope.old) paths.now items.now result }
     ensures rest { OnOk result (without_locals scope.new ≡ without_locals scope.old) }
 {
-    let mut all = Definitions::new(alloc);
-    for at in 0..items.len() {
-        let Some(item) = items.get(at) else {
-            return Ok(all);
-        };
-        item_defined(alloc, scope, paths, item, &mut all)?;
-    }
-    Ok(all)
+    let names = std::mem::replace(&mut scope.names, Names::new(alloc));
+    let declarations = std::mem::replace(&mut scope.declarations, Stack::new(alloc));
+    let level = FileLevel {
+        names,
+        declarations,
+    };
+    let defined = items_defined(alloc, scope, &level, paths, items);
+    scope.names = level.names;
+    scope.declarations = level.declarations;
+    defined
 }
