@@ -30,6 +30,7 @@ use Rattle.vf_worth.specs.Declares.{BuildsTerms, constructed, file_level}
 use Rattle.vf_worth.specs.Worth.{HaveValues, HasValue, Sets, passing}
 use Rattle.vf_worth.specs.Given.{FixpointsKeepSorts, GivesValues}
 use Rattle.vf_worth.specs.Example.{FirstHasItsSort, cons_constructor, declared_as, element, first_fixpoint, first_in, first_of_one, known_in_one, length_fixpoint, list_interpretation, list_of, list_scope, list_setting, nil_constructor, no_words}
+use Rattle.vf_worth.proofs.Covering.{covers_itself}
 use Rattle.vf_worth.proofs.Having.{value_alike}
 use Rattle.vf_worth.proofs.Values.{values_have_sorts}
 
@@ -207,7 +208,7 @@ module _ (sets : Sets) where
       by None e = absurd (let q : None ≡ Some is.declaration = ap (at_index list_scope.declarations) (sym e) ∙ is.found in cc)
 
 -- ---- what is given
-nothing_else : (v : Valuation) (sets : Sets) (g : Instance) → GivesValues list_setting list_interpretation v sets g
+nothing_else : (v : Valuation) (sets : Sets) (g : Instance) → GivesValues (file_level list_setting) list_setting list_interpretation v sets g
 nothing_else v sets g = record { aligned = refl; locals = λ n l e. absurd cc; result = λ t e. absurd cc; this_value = λ e. absurd cc; thread = λ e. absurd cc }
 
 -- a type parameter stands for itself
@@ -221,6 +222,6 @@ first_has_its_sort = record {
   sorted = first_sorted;
   agrees = known_agrees;
   has_value = λ v tests.
-      (values_have_sorts list_setting list_interpretation v tests itself (nothing_else v (passing tests) itself) (fixpoints_keep (passing tests)) [] known_in_one first_of_one known_agrees).0 (leaf (heads.Unknown 0)) first_sorted;
+      (values_have_sorts (file_level list_setting) list_setting list_interpretation v tests itself (covers_itself (file_level list_setting)) (nothing_else v (passing tests) itself) (fixpoints_keep (passing tests)) [] known_in_one first_of_one known_agrees).0 (leaf (heads.Unknown 0)) first_sorted;
   is_one = λ v. refl;
 }

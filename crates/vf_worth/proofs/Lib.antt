@@ -1,4 +1,5 @@
 pub mod Alike
+pub mod Covering
 pub mod Placing
 pub mod Having
 pub mod Before

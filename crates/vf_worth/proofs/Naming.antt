@@ -34,7 +34,7 @@ use Rattle.vf_sorting.proofs.Lists.{none_past}
 use Rattle.vf_terms.specs.Settings.{Setting, kind_of_sort, settled}
 use Rattle.vf_terms.specs.Named.{applied_by, applied_ghost_head, applied_head, applied_term, declaration_seen, declared_head, files_or_none, ghost_head, identity_of, local_term, meant_head, name_term, seen_from, term_of_head, term_of_name, test_by, test_head}
 use Rattle.vf_worth.specs.Instances.{Instance, placed, settled_at}
-use Rattle.vf_worth.specs.Declares.{BuildsPredicates, BuildsTerms, Declares, constructed, file_level, declared, made, made_scheme, later}
+use Rattle.vf_worth.specs.Declares.{BuildsPredicates, BuildsTerms, Covers, Declared, Declares, constructed, file_level, declared, made, made_scheme, later}
 use Rattle.vf_worth.specs.Worth.{Sets, HaveValues, HasValue}
 use Rattle.vf_worth.specs.Given.{GivesValues, KeepsSortsAt, TermKeepsSorts, TermsKeepSorts}
 use Rattle.vf_worth.proofs.Placing.{fresh_at, instance_used, none_used, unknown_at}
@@ -47,7 +47,7 @@ may_be g = Ok g
 same_scheme : {g k : Scheme} → may_be g ≡ may_be k → g ≡ k
 same_scheme e = cc
 
-module _ (s : Setting) (i : Interpretation) (v : Valuation) (sets : Sets) (places : Instance) where
+module _ (unit : Declared) (s : Setting) (i : Interpretation) (v : Valuation) (sets : Sets) (places : Instance) (covers : Covers unit (file_level s)) where
   -- a sort of a declaration where so many unknown sorts, from a first on, stand for its type parameters
   abbrev pub Use : ℕ → ℕ → Sort → Sort
   Use first n t = settled_at s places (instance first n t)
@@ -68,43 +68,43 @@ module _ (s : Setting) (i : Interpretation) (v : Valuation) (sets : Sets) (place
   -- ---- what is declared, at arguments of its sorts
   -- what may be used so gives a value of its sort at arguments of its sorts
   abbrev pub Gives : (Values → Value) → Scheme → ℕ → Type 0
-  Gives f x first = (vs : Values) → HaveValues (file_level s) sets vs (map (Use first x.parameters) x.arguments) → HasValue (file_level s) sets (f vs) (Use first x.parameters x.result)
+  Gives f x first = (vs : Values) → HaveValues unit sets vs (map (Use first x.parameters) x.arguments) → HasValue unit sets (f vs) (Use first x.parameters x.result)
 
   whole_used : (x : Scheme) (first : ℕ) → AreAlike (placed (fresh first x.parameters) unknown x.result) (Use first x.parameters x.result)
   whole_used x first = ap untold (sym (used first x.parameters x.result))
 
-  parts_used : (x : Scheme) (first : ℕ) (vs : Values) → HaveValues (file_level s) sets vs (map (Use first x.parameters) x.arguments) → HaveValues (file_level s) sets vs (map (placed (fresh first x.parameters) unknown) x.arguments)
-  parts_used x first vs have = subst (HaveValues (file_level s) sets vs) (all_used first x.parameters x.arguments) have
+  parts_used : (x : Scheme) (first : ℕ) (vs : Values) → HaveValues unit sets vs (map (Use first x.parameters) x.arguments) → HaveValues unit sets vs (map (placed (fresh first x.parameters) unknown) x.arguments)
+  parts_used x first vs have = subst (HaveValues unit sets vs) (all_used first x.parameters x.arguments) have
 
   constructor_gives : (c : Identity) (x : Scheme) → BuildsTerms (file_level s) c x → (first : ℕ) → Gives (values.Constructed c) x first
-  constructor_gives c x (constructed is) first vs have = (x, constructed is, fresh first x.parameters, unknown, whole_used x first, parts_used x first vs have)
+  constructor_gives c x (constructed is) first vs have = (x, covers.terms c x (constructed is), fresh first x.parameters, unknown, whole_used x first, parts_used x first vs have)
 
   predicate_gives : (p : Identity) (x : Scheme) → BuildsPredicates (file_level s) p x → (first : ℕ) → Gives (values.Predicate p) x first
-  predicate_gives p x (declared is) first vs have = (x, declared is, fresh first x.parameters, unknown, whole_used x first, parts_used x first vs have)
-  predicate_gives p x (made is) first vs have = (x, made is, fresh first x.parameters, unknown, whole_used x first, parts_used x first vs have)
-  predicate_gives p x (later y from stands is) first vs have = (x, later y from stands is, fresh first x.parameters, unknown, whole_used x first, parts_used x first vs have)
+  predicate_gives p x (declared is) first vs have = (x, covers.predicates p x (declared is), fresh first x.parameters, unknown, whole_used x first, parts_used x first vs have)
+  predicate_gives p x (made is) first vs have = (x, covers.predicates p x (made is), fresh first x.parameters, unknown, whole_used x first, parts_used x first vs have)
+  predicate_gives p x (later y from stands is) first vs have = (x, covers.predicates p x (later y from stands is), fresh first x.parameters, unknown, whole_used x first, parts_used x first vs have)
 
-  fixpoint_gives : (c : Identity) (x : declaration.Fixpoint) → Declares (file_level s) c (ghosts.Fixpoint x) → (first n : ℕ) (vs : Values) → KeepsSortsAt (file_level s) i sets c vs → HaveValues (file_level s) sets vs (map (Use first n) x.arguments)
-      → HasValue (file_level s) sets (i.fixpoint c vs) (Use first n x.result)
+  fixpoint_gives : (c : Identity) (x : declaration.Fixpoint) → Declares (file_level s) c (ghosts.Fixpoint x) → (first n : ℕ) (vs : Values) → KeepsSortsAt unit i sets c vs → HaveValues unit sets vs (map (Use first n) x.arguments)
+      → HasValue unit sets (i.fixpoint c vs) (Use first n x.result)
   fixpoint_gives c x is first n vs keeps have =
-      subst (HasValue (file_level s) sets (i.fixpoint c vs)) (sym (used first n x.result)) (keeps x is (fresh first n) unknown (subst (HaveValues (file_level s) sets vs) (all_used first n x.arguments) have))
+      subst (HasValue unit sets (i.fixpoint c vs)) (sym (used first n x.result)) (keeps x (covers.declares c (ghosts.Fixpoint x) is) (fresh first n) unknown (subst (HaveValues unit sets vs) (all_used first n x.arguments) have))
 
   -- ---- names in front of arguments
   -- arguments have values of a scheme's sorts, where the fixpoints that they apply keep sorts there
   abbrev pub HaveSorts : List Term → ℕ → Scheme → Type 0
-  HaveSorts xs first g = TermsKeepSorts (file_level s) i v sets (row xs) → HaveValues (file_level s) sets (all_values i v (row xs)) (map (Use first g.parameters) g.arguments)
+  HaveSorts xs first g = TermsKeepSorts unit i v sets (row xs) → HaveValues unit sets (all_values i v (row xs)) (map (Use first g.parameters) g.arguments)
 
   -- so has the term of a head, which depends on the kind of the whole, over arguments
   abbrev pub Applies : (Kind → Option Head) → List Term → ℕ → Scheme → Type 0
-  Applies h xs first g = HaveSorts xs first g → TermKeepsSorts (file_level s) i v sets (applied_term (h (kind_of_sort (settled s (instance first g.parameters g.result)))) xs)
-      → HasValue (file_level s) sets (value i v (applied_term (h (kind_of_sort (settled s (instance first g.parameters g.result)))) xs)) (Use first g.parameters g.result)
+  Applies h xs first g = HaveSorts xs first g → TermKeepsSorts unit i v sets (applied_term (h (kind_of_sort (settled s (instance first g.parameters g.result)))) xs)
+      → HasValue unit sets (value i v (applied_term (h (kind_of_sort (settled s (instance first g.parameters g.result)))) xs)) (Use first g.parameters g.result)
 
   module _ (p : Place) (x : List ℕ) (xs : List Term) (first : ℕ) (g : Scheme) where
     ghost_applies : (c : Identity) (n : ℕ) (o : Option GhostDeclaration) → ((d : GhostDeclaration) → o ≡ Some d → Declares (file_level s) c d) → applied_ghost s.scope s.context.own p n o ≡ Ok g → Applies (λ k. applied_ghost_head k c o) xs first g
     ghost_applies c n (Some (ghosts.Constructor k)) is e = subst (Applies (λ q. applied_ghost_head q c (Some (ghosts.Constructor k))) xs first) (same_scheme e) (λ have keeps. constructor_gives c (constructor_scheme s.scope k) (constructed (is (ghosts.Constructor k) refl)) first (all_values i v (row xs)) (have keeps.1))
     ghost_applies c n (Some (ghosts.Fixpoint f)) is e =
         subst (Applies (λ q. applied_ghost_head q c (Some (ghosts.Fixpoint f))) xs first) (same_scheme e)
-        (λ have keeps. kinded (file_level s) sets places any_sort (i.fixpoint c (all_values i v (row xs))) (settled s (instance first (used_parameters s.context.own n f.parameters) f.result))
+        (λ have keeps. kinded unit sets places any_sort (i.fixpoint c (all_values i v (row xs))) (settled s (instance first (used_parameters s.context.own n f.parameters) f.result))
         (fixpoint_gives c f (is (ghosts.Fixpoint f) refl) first (used_parameters s.context.own n f.parameters) (all_values i v (row xs)) keeps.0 (have keeps.1)))
     ghost_applies c n (Some (ghosts.PredicateConstructor k)) is e =
         subst (Applies (λ q. applied_ghost_head q c (Some (ghosts.PredicateConstructor k))) xs first) (same_scheme e) (λ have keeps. predicate_gives c (made_scheme k) (made (is (ghosts.PredicateConstructor k) refl)) first (all_values i v (row xs)) (have keeps.1))
@@ -121,16 +121,16 @@ module _ (s : Setting) (i : Interpretation) (v : Valuation) (sets : Sets) (place
     meaning_applies d found (meanings.FunctionType n) means e = absurd cc
 
     -- `is_T`
-    test_meant : (d : Declaration) (m : Meaning) → is_function_type (Some m) ≡ true → HasValue (file_level s) sets (value i v (applied_term (test_by s x d.files m) xs)) bool_sort
+    test_meant : (d : Declaration) (m : Meaning) → is_function_type (Some m) ≡ true → HasValue unit sets (value i v (applied_term (test_by s x d.files m) xs)) bool_sort
     test_meant d (meanings.FunctionType n) e = refl
     test_meant d (meanings.Function n) e = absurd cc
     test_meant d (meanings.Ghost n) e = absurd cc
 
-    test_visible : (d : Declaration) (b : Bool) → is_function_type (if b then Some d.meaning else None) ≡ true → HasValue (file_level s) sets (value i v (applied_term (test_head s x (if b then Some d else None)) xs)) bool_sort
+    test_visible : (d : Declaration) (b : Bool) → is_function_type (if b then Some d.meaning else None) ≡ true → HasValue unit sets (value i v (applied_term (test_head s x (if b then Some d else None)) xs)) bool_sort
     test_visible d true e = test_meant d d.meaning e
     test_visible d false e = absurd cc
 
-    test_found : (o : Option Declaration) → is_function_type (declared_in s.scope p.file o) ≡ true → HasValue (file_level s) sets (value i v (applied_term (test_head s x (seen_from s.scope p.file o)) xs)) bool_sort
+    test_found : (o : Option Declaration) → is_function_type (declared_in s.scope p.file o) ≡ true → HasValue unit sets (value i v (applied_term (test_head s x (seen_from s.scope p.file o)) xs)) bool_sort
     test_found (Some d) e = test_visible d (is_visible s.scope p.file d.files) e
     test_found None e = absurd cc
 
@@ -156,10 +156,10 @@ module _ (s : Setting) (i : Interpretation) (v : Valuation) (sets : Sets) (place
     application_applies e = found_applies (at_name s.scope.names s.scope.declarations x) refl e
 
   -- ---- names as values
-  module _ (gives : GivesValues s i v sets places) where
+  module _ (gives : GivesValues unit s i v sets places) where
     -- a term has a value of a scheme's sort
     abbrev pub Names : Term → ℕ → Scheme → Type 0
-    Names t first g = HasValue (file_level s) sets (value i v t) (Use first g.parameters g.result)
+    Names t first g = HasValue unit sets (value i v t) (Use first g.parameters g.result)
 
     module _ (p : Place) (x : List ℕ) (first : ℕ) (g : Scheme) where
       no_arguments : (k : Constructor) (ts : List Sort) → k.arguments ≡ ts → constant_scheme s.scope p k ts ≡ Ok g → (k.arguments ≡ []) × (constructor_scheme s.scope k ≡ g)
@@ -171,7 +171,7 @@ module _ (s : Setting) (i : Interpretation) (v : Valuation) (sets : Sets) (place
           let a = no_arguments k k.arguments refl e in
           subst (Names (term_of_head (ghost_head c (Some (ghosts.Constructor k)))) first) a.1
           (constructor_gives c (constructor_scheme s.scope k) (constructed (is (ghosts.Constructor k) refl)) first none
-          (subst (λ (ts : List Sort). HaveValues (file_level s) sets none (map (Use first (count_in (datatype_of s.scope k.datatype))) ts)) (sym a.0) tt))
+          (subst (λ (ts : List Sort). HaveValues unit sets none (map (Use first (count_in (datatype_of s.scope k.datatype))) ts)) (sym a.0) tt))
       ghost_names c (Some (ghosts.Predicate ts)) is e =
           subst (Names (term_of_head (ghost_head c (Some (ghosts.Predicate ts)))) first) (same_scheme e) (predicate_gives c (at_sort (predicate_sort ts)) (declared (is (ghosts.Predicate ts) refl)) first none tt)
       ghost_names c (Some (ghosts.Fixpoint f)) is e = absurd cc
@@ -214,7 +214,7 @@ module _ (s : Setting) (i : Interpretation) (v : Valuation) (sets : Sets) (place
 
       local_names : (n : ℕ) → number_of s.scope.locals.names x ≡ Some n → (o : Option Local) → slice_get s.scope.locals.meanings n ≡ o → local_scheme s.scope p x o ≡ Ok g → Names (local_term (slice_get s.locals n)) first g
       local_names n is (Some l) there e =
-          subst (Names (local_term (slice_get s.locals n)) first) (same_scheme e) (subst (HasValue (file_level s) sets (value i v (local_term (slice_get s.locals n)))) (none_used places any_sort (settling s.known) first (sort_of_local l)) (gives.locals n l there))
+          subst (Names (local_term (slice_get s.locals n)) first) (same_scheme e) (subst (HasValue unit sets (value i v (local_term (slice_get s.locals n)))) (none_used places any_sort (settling s.known) first (sort_of_local l)) (gives.locals n l there))
       local_names n is None there e = absurd (local_there n is there)
 
       numbered_names : (o : Option ℕ) → number_of s.scope.locals.names x ≡ o → local_scheme s.scope p x (at_index s.scope.locals.meanings o) ≡ Ok g → Names (name_term s x p.file o) first g

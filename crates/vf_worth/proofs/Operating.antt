@@ -24,7 +24,7 @@ use Rattle.vf_terms.specs.Readings.{beside_by, null_term, paired, read, reading}
 use Rattle.vf_terms.specs.declared.reading.Reading.{Reading}
 use Rattle.vf_terms.specs.declared.reading.Pair.{Pair}
 use Rattle.vf_worth.specs.Instances.{Instance, settled_at}
-use Rattle.vf_worth.specs.Declares.{file_level}
+use Rattle.vf_worth.specs.Declares.{Declared}
 use Rattle.vf_worth.specs.Worth.{Sets, HasValue}
 use Rattle.vf_worth.proofs.Alike.{AreHeadsAlike}
 use Rattle.vf_worth.proofs.Before.{told_first}
@@ -162,9 +162,9 @@ result_settled s operators.NotEqual = refl
 result_settled s operators.And = refl
 result_settled s operators.Or = refl
 
-module _ (s : Setting) (i : Interpretation) (v : Valuation) (sets : Sets) (places : Instance) where
+module _ (d : Declared) (s : Setting) (i : Interpretation) (v : Valuation) (sets : Sets) (places : Instance) where
   -- an operator makes a value of its result's sort
-  pub joined_value : (o : BinaryOperator) (a b : Term) → HasValue (file_level s) sets (value i v (over_two (operator_head o) a b)) (settled_at s places (result_sort o))
+  pub joined_value : (o : BinaryOperator) (a b : Term) → HasValue d sets (value i v (over_two (operator_head o) a b)) (settled_at s places (result_sort o))
   joined_value operators.Times a b = refl
   joined_value operators.Divide a b = refl
   joined_value operators.Remainder a b = refl
@@ -180,7 +180,7 @@ module _ (s : Setting) (i : Interpretation) (v : Valuation) (sets : Sets) (place
   joined_value operators.Or a b = refl
 
   -- `==` and `!=` make truth values
-  pub compared_value : (o : BinaryOperator) (a b : Term) → is_equality o ≡ true → HasValue (file_level s) sets (value i v (over_two (operator_head o) a b)) bool_sort
+  pub compared_value : (o : BinaryOperator) (a b : Term) → is_equality o ≡ true → HasValue d sets (value i v (over_two (operator_head o) a b)) bool_sort
   compared_value operators.Equal a b e = refl
   compared_value operators.NotEqual a b e = refl
   compared_value operators.Times a b e = absurd cc

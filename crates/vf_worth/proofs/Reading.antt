@@ -29,7 +29,7 @@ use Rattle.vf_terms.specs.declared.reading.Reading.{Reading}
 use Rattle.vf_terms.specs.declared.reading.Pair.{Pair}
 use Rattle.vf_terms.specs.declared.reading.Row.{Row}
 use Rattle.vf_worth.specs.Instances.{Instance, settled_at}
-use Rattle.vf_worth.specs.Declares.{file_level}
+use Rattle.vf_worth.specs.Declares.{Covers, Declared, file_level}
 use Rattle.vf_worth.specs.Worth.{Sets, HaveValues, HasValue}
 use Rattle.vf_worth.specs.Given.{GivesValues, TermKeepsSorts, TermsKeepSorts}
 use Rattle.vf_worth.proofs.Alike.{AreHeadsAlike, any_alike, any_head, any_not_pointer, heads_alike, kind_alike, placed_alike, pointer_alike, pointer_head}
@@ -64,10 +64,10 @@ not_both : (a b : Bool) → (b ≡ true → a ≡ false) → (a && b) ≡ false
 not_both a true f = not_first a true (f refl)
 not_both a false f = not_second a false refl
 
-module _ (s : Setting) (i : Interpretation) (v : Valuation) (sets : Sets) (places : Instance) (gives : GivesValues s i v sets places) where
+module _ (unit : Declared) (s : Setting) (i : Interpretation) (v : Valuation) (sets : Sets) (places : Instance) (covers : Covers unit (file_level s)) (gives : GivesValues unit s i v sets places) where
   -- a term has a value of a sort as it is known in the end, where the fixpoints that it applies keep sorts there
   abbrev pub Is : Term → Sort → Type 0
-  Is x t = TermKeepsSorts (file_level s) i v sets x → HasValue (file_level s) sets (value i v x) (settled_at s places t)
+  Is x t = TermKeepsSorts unit i v sets x → HasValue unit sets (value i v x) (settled_at s places t)
 
   -- a reading is of a sort, behind which so much is known
   abbrev pub IsRead : Reading → Sort → Known → Type 0
@@ -83,7 +83,7 @@ module _ (s : Setting) (i : Interpretation) (v : Valuation) (sets : Sets) (place
 
   -- the same of arguments
   abbrev pub AreRead : Row → ℕ → ℕ → List Sort → Known → Type 0
-  AreRead r first n ts k = (r.next ≡ length k) × (TermsKeepSorts (file_level s) i v sets (row r.terms) → HaveValues (file_level s) sets (all_values i v (row r.terms)) (map (λ t. settled_at s places (instance first n t)) ts))
+  AreRead r first n ts k = (r.next ≡ length k) × (TermsKeepSorts unit i v sets (row r.terms) → HaveValues unit sets (all_values i v (row r.terms)) (map (λ t. settled_at s places (instance first n t)) ts))
 
   -- where a pointer is wanted, the sort is one of pointers
   abbrev pub Fits : Bool → Sort → Type 0
@@ -103,21 +103,21 @@ module _ (s : Setting) (i : Interpretation) (v : Valuation) (sets : Sets) (place
   chosen_read c p t k (next, sorts, x, y) = (
     next,
     sorts,
-    λ keeps. subst (λ q. HasValue (file_level s) sets (of_kind q (cond (is_true (value i v c.term)) (value i v p.first) (value i v p.second))) (settled_at s places t)) (sym (kind_alike p.sort (settled s t) sorts))
-        (kinded (file_level s) sets places any_sort (cond (is_true (value i v c.term)) (value i v p.first) (value i v p.second)) (settled s t) (one_of_two (file_level s) sets (is_true (value i v c.term)) (value i v p.first) (value i v p.second) (settled_at s places t) (x keeps.1.1.0) (y keeps.1.1.1.0))),
+    λ keeps. subst (λ q. HasValue unit sets (of_kind q (cond (is_true (value i v c.term)) (value i v p.first) (value i v p.second))) (settled_at s places t)) (sym (kind_alike p.sort (settled s t) sorts))
+        (kinded unit sets places any_sort (cond (is_true (value i v c.term)) (value i v p.first) (value i v p.second)) (settled s t) (one_of_two unit sets (is_true (value i v c.term)) (value i v p.first) (value i v p.second) (settled_at s places t) (x keeps.1.1.0) (y keeps.1.1.1.0))),
   )
 
   -- two terms of a common sort that are compared
   compared_read : (o : BinaryOperator) (p : Pair) (t : Sort) (k : Known) → is_equality o ≡ true → ArePaired p t k → IsRead (readings.compared o p) bool_sort k
-  compared_read o p t k is (next, sorts, x, y) = (next, refl, λ keeps. compared_value s i v sets places o p.first p.second is)
+  compared_read o p t k is (next, sorts, x, y) = (next, refl, λ keeps. compared_value unit s i v sets places o p.first p.second is)
 
   -- a choice between pointers
   chosen_pointer_read : (c x y : Reading) (t : Sort) (k : Known) → is_pointer (settled s t) ≡ true → y.next ≡ length k → Is x.term t → Is y.term t → IsRead (readings.chosen_pointer c x y) t k
-  chosen_pointer_read c x y t k wanted next xt yt = (next, pointer_head (settled s t) wanted, λ keeps. one_of_two (file_level s) sets (is_true (value i v c.term)) (value i v x.term) (value i v y.term) (settled_at s places t) (xt keeps.1.1.0) (yt keeps.1.1.1.0))
+  chosen_pointer_read c x y t k wanted next xt yt = (next, pointer_head (settled s t) wanted, λ keeps. one_of_two unit sets (is_true (value i v c.term)) (value i v x.term) (value i v y.term) (settled_at s places t) (xt keeps.1.1.0) (yt keeps.1.1.1.0))
 
   -- a value of a sort is of each that is alike in the end
   alike_value : (x : Term) (t u : Sort) → AreAlike (settled s t) (settled s u) → Is x t → Is x u
-  alike_value x t u e h keeps = value_alike (file_level s) sets (value i v x) (settled_at s places t) (settled_at s places u) (placed_alike places any_sort (settled s t) (settled s u) e) (h keeps)
+  alike_value x t u e h keeps = value_alike unit sets (value i v x) (settled_at s places t) (settled_at s places u) (placed_alike places any_sort (settled s t) (settled s u) e) (h keeps)
 
   -- ---- two operands that meet
   -- operands of which one is of any sort
@@ -125,7 +125,7 @@ module _ (s : Setting) (i : Interpretation) (v : Valuation) (sets : Sets) (place
       → (is_any (settled s t) ≡ true) ⊎ (is_any (settled s u) ≡ true) → ArePaired (beside_by n z x y) value_sort k
   met_any z n x y t u k shows shown xs xt (next, ys, yt) is =
       subst (λ p. ArePaired p value_sort k) (sym (beside_paired n z x y (not_both (is_pointer x.sort) n left_out) ∙ paired_any z x y (not_both (is_pointer y.sort) z right_out) (told is)))
-      (next, refl, (λ keeps. of_any (file_level s) sets (value i v x.term) (settled_at s places t) (xt keeps)), λ keeps. of_any (file_level s) sets (value i v y.term) (settled_at s places u) (yt keeps))
+      (next, refl, (λ keeps. of_any unit sets (value i v x.term) (settled_at s places t) (xt keeps)), λ keeps. of_any unit sets (value i v y.term) (settled_at s places u) (yt keeps))
     where
       left_any : (is_any (settled s t) ≡ true) ⊎ (is_any (settled s u) ≡ true) → n ≡ true → is_any (settled s t) ≡ true
       left_any (inl p) e = p
@@ -182,12 +182,12 @@ module _ (s : Setting) (i : Interpretation) (v : Valuation) (sets : Sets) (place
     has_read w (thread is) a fits u at = (at, refl, λ keeps. gives.thread is)
     has_read w (name_ {k} {p} {x} {g} is below) a fits u at =
         subst (λ r. IsRead (used_at s (scheme_or_int r) (term_of_name s x p.file) u) (instance (length k) g.parameters g.result) (with_fresh k g.parameters)) (sym is)
-        (ap (λ n. n + g.parameters) at ∙ sym (fresh_length k g.parameters), ap (λ n. untold_head (head_of (settled s (instance n g.parameters g.result)))) at, λ keeps. name_named s i v sets places gives p x (length k) g is)
+        (ap (λ n. n + g.parameters) at ∙ sym (fresh_length k g.parameters), ap (λ n. untold_head (head_of (settled s (instance n g.parameters g.result)))) at, λ keeps. name_named unit s i v sets places covers gives p x (length k) g is)
     has_read w (application {k} {k'} {p} {f} {xs} {g} local is below passed) a fits u at =
         subst (λ r. IsRead (applied_at s (scheme_or_int r) f p.file u (read_all s u (scheme_or_int r).parameters (scheme_or_int r).arguments (u + (scheme_or_int r).parameters) xs)) (instance (length k) g.parameters g.result) k') (sym is)
         (subst (λ n. IsRead (applied_at s g f p.file n (read_all s n g.parameters g.arguments (n + g.parameters) xs)) (instance (length k) g.parameters g.result) k') (sym at)
         (let all = passed_read passed a (length k + g.parameters) (sym (fresh_length k g.parameters)) in
-        (all.0, refl, application_applies s i v sets places p f (read_all s (length k) g.parameters g.arguments (length k + g.parameters) xs).terms (length k) g is all.1)))
+        (all.0, refl, application_applies unit s i v sets places covers p f (read_all s (length k) g.parameters g.arguments (length k + g.parameters) xs).terms (length k) g is all.1)))
     has_read w (parenthesized h) a fits u at = has_read w h a fits u at
     has_read false (conditional {k' = l} {a = c} {b} {d} {t} {u = r} test h m) a fits u at =
         let first = passes_read false test (before s.scope s.context (settling s.known) h (before_meet s.scope s.context (settling s.known) m a)) refl u at in
@@ -199,7 +199,7 @@ module _ (s : Setting) (i : Interpretation) (v : Valuation) (sets : Sets) (place
         let x = has_read true h a fits (read s false u c).next first.0 in
         let y = null_read s (read s true (read s false u c).next b).next d (second_of _ (is_null d) is) in
         chosen_pointer_read (read s false u c) (read s true (read s false u c).next b) (read s true (read s true (read s false u c).next b).next d) t k₂ (fits refl) (ap (λ (r : Reading). r.next) y ∙ x.0) x.2
-        (subst (λ (r : Reading). Is r.term t) (sym y) (λ keeps. null_pointer (file_level s) sets places any_sort (settled s t) (fits refl)))
+        (subst (λ (r : Reading). Is r.term t) (sym y) (λ keeps. null_pointer unit sets places any_sort (settled s t) (fits refl)))
     has_read true (conditional {k₁} {k₂} {k' = l} {a = c} {b} {d} {t} {u = r} test h (null_first other g is)) a fits u at =
         let middle = before s.scope s.context (settling s.known) g a in
         let first = passes_read false test (before s.scope s.context (settling s.known) h middle) refl u at in
@@ -207,7 +207,7 @@ module _ (s : Setting) (i : Interpretation) (v : Valuation) (sets : Sets) (place
         let x = null_read s (read s false u c).next b (second_of _ (is_null b) is) in
         let y = has_read true g a fits (read s true (read s false u c).next b).next (ap (λ (q : Reading). q.next) x ∙ first.0 ∙ ap length nothing.1) in
         chosen_pointer_read (read s false u c) (read s true (read s false u c).next b) (read s true (read s true (read s false u c).next b).next d) r l (fits refl) y.0
-        (subst (λ (q : Reading). Is q.term r) (sym x) (λ keeps. null_pointer (file_level s) sets places any_sort (settled s r) (fits refl))) y.2
+        (subst (λ (q : Reading). Is q.term r) (sym x) (λ keeps. null_pointer unit sets places any_sort (settled s r) (fits refl))) y.2
     has_read true (conditional test h (any_beside other g not_one is)) a fits u at = absurd (let q : false ≡ true = fits refl in cc)
     has_read true (conditional {k₁} {k₂} {k' = l} {a = c} {b} {d} {t} test h (alike {k₁ = k₃} {u = r} other g not_one not_any e)) a fits u at =
         let after = e.kept (settling s.known) a in
@@ -228,13 +228,13 @@ module _ (s : Setting) (i : Interpretation) (v : Valuation) (sets : Sets) (place
     meets_read (null_second {k} {z} {t} {d} is) a x (next, xs, xt) shows =
         let wanted = known_pointer s k t a (first_of _ (is_null d) is) in
         let there = both_of (is_pointer x.sort) (is_null d) (pointer_alike x.sort (settled s t) xs ∙ wanted) (second_of _ (is_null d) is) in
-        subst (λ p. ArePaired p t k) (sym (beside_null (is_null d) z x (read s false x.next d) there)) (next, xs, xt, λ keeps. null_pointer (file_level s) sets places any_sort (settled s t) wanted)
+        subst (λ p. ArePaired p t k) (sym (beside_null (is_null d) z x (read s false x.next d) there)) (next, xs, xt, λ keeps. null_pointer unit sets places any_sort (settled s t) wanted)
     meets_read (null_first {k} {k'} {z} {t} {u} {d} other h is) a x (next, xs, xt) shows =
         let y = has_read false h a (nothing_wanted u) x.next next in
         let wanted = known_pointer s k' u a (first_of _ z is) in
         let out = not_first (is_pointer x.sort) (is_null d) (pointer_alike x.sort (settled s t) xs ∙ not_null z t shows (second_of _ z is)) in
         let there = both_of (is_pointer (read s false x.next d).sort) z (pointer_alike (read s false x.next d).sort (settled s u) y.1 ∙ wanted) (second_of _ z is) in
-        subst (λ p. ArePaired p u k') (sym (beside_paired (is_null d) z x (read s false x.next d) out ∙ paired_null z x (read s false x.next d) there)) (y.0, y.1, (λ keeps. null_pointer (file_level s) sets places any_sort (settled s u) wanted), y.2)
+        subst (λ p. ArePaired p u k') (sym (beside_paired (is_null d) z x (read s false x.next d) out ∙ paired_null z x (read s false x.next d) there)) (y.0, y.1, (λ keeps. null_pointer unit sets places any_sort (settled s u) wanted), y.2)
     meets_read (any_beside {k} {k'} {z} {t} {u} {d} other h not_one is) a x (next, xs, xt) shows =
         met_any z (is_null d) x (read s false x.next d) t u k' shows (λ q. (null_sorted h q).0) xs xt (has_read false h a (nothing_wanted u) x.next next) (told (either _ _ is))
       where
@@ -260,7 +260,7 @@ module _ (s : Setting) (i : Interpretation) (v : Valuation) (sets : Sets) (place
         let y = passes_read false p a refl x.next next in
         subst (λ q. IsRead (if q then readings.compared o (beside_by (is_null b) z x (read s false x.next b)) else (if moves o x.sort then readings.moved x (read s false x.next b) else readings.joined o x (read s false x.next b))) pointer_sort l) (sym other)
         (subst (λ q. IsRead (if q then readings.moved x (read s false x.next b) else readings.joined o x (read s false x.next b)) pointer_sort l) (sym there)
-        (y.0, refl, λ keeps. still_further (file_level s) sets places any_sort (value i v x.term) (number_of (value i v (read s false x.next b).term)) (settled s t) wanted (xt keeps.1.0)))
+        (y.0, refl, λ keeps. still_further unit sets places any_sort (value i v x.term) (number_of (value i v (read s false x.next b).term)) (settled s t) wanted (xt keeps.1.0)))
     link_read (joined {k} {k₁} {k' = l} {z} {t} {o} {a = b} other still e p) a x (next, xs, xt) shows =
         let after = before_pass s.scope s.context (settling s.known) p a in
         let same = equated (settling s.known) k k₁ t (operand_sort o) e after in
@@ -268,7 +268,7 @@ module _ (s : Setting) (i : Interpretation) (v : Valuation) (sets : Sets) (place
         let y = passes_read false p a (sym (operand_no_pointer s o)) x.next (next ∙ sym e.long) in
         subst (λ q. IsRead (if q then readings.compared o (beside_by (is_null b) z x (read s false x.next b)) else (if moves o x.sort then readings.moved x (read s false x.next b) else readings.joined o x (read s false x.next b))) (result_sort o) l) (sym other)
         (subst (λ q. IsRead (if q then readings.moved x (read s false x.next b) else readings.joined o x (read s false x.next b)) (result_sort o) l) (sym out)
-        (y.0, result_settled s o, λ keeps. joined_value s i v sets places o x.term (read s false x.next b).term))
+        (y.0, result_settled s o, λ keeps. joined_value unit s i v sets places o x.term (read s false x.next b).term))
 
     -- an expression that passes for a wanted sort
     pub passes_read : {k k' : Known} {w : Sort} {q : Place} {e : GhostExprTree} (b : Bool) → Passes s.scope s.context k w q e k' → AgreesAsTold (settling s.known) k' → b ≡ is_pointer (settled s w) → (u : ℕ) → u ≡ length k
@@ -277,7 +277,7 @@ module _ (s : Setting) (i : Interpretation) (v : Valuation) (sets : Sets) (place
     passes_read b (null {k} {w} {n} yes_null) a is u at =
         let wanted = known_pointer s k w a (first_of _ (nat_eq n 0) yes_null) in
         subst (λ q. IsWanted (if q then reading pointer_sort null_term u else reading int_sort (terms.number (pos n)) u) w k) (sym (both_of b (nat_eq n 0) (is ∙ wanted) (second_of _ (nat_eq n 0) yes_null)))
-        (at, λ keeps. null_pointer (file_level s) sets places any_sort (settled s w) wanted)
+        (at, λ keeps. null_pointer unit sets places any_sort (settled s w) wanted)
     passes_read b (choice {k} {k₁} {k₂} {k' = l} {w} {p} {a = c} {b = e} {d} pointer test x y) a is u at =
         let after = before_pass s.scope s.context (settling s.known) y a in
         let middle = before_pass s.scope s.context (settling s.known) x after in
@@ -287,13 +287,13 @@ module _ (s : Setting) (i : Interpretation) (v : Valuation) (sets : Sets) (place
         let right = passes_read true y a (sym wanted) (read s true (read s false u c).next e).next left.0 in
         subst (λ q. IsWanted (read s q u (tree.conditional p c e d)) w l) (sym (is ∙ wanted)) (
           right.0,
-          λ keeps. one_of_two (file_level s) sets (is_true (value i v (read s false u c).term)) (value i v (read s true (read s false u c).next e).term) (value i v (read s true (read s true (read s false u c).next e).next d).term) (settled_at s places w)
+          λ keeps. one_of_two unit sets (is_true (value i v (read s false u c).term)) (value i v (read s true (read s false u c).next e).term) (value i v (read s true (read s true (read s false u c).next e).next d).term) (settled_at s places w)
               (left.1 keeps.1.1.0) (right.1 keeps.1.1.1.0),
         )
     passes_read b (any_wanted {k' = l} {w} {t} {e = x} outside any h) a is u at =
         let all = known_any s _ w (before s.scope s.context (settling s.known) h a) any in
         let good = has_read b h a (λ q. no_and_yes b (is ∙ any_not_pointer (settled s w) all) q) u at in
-        (good.0, λ keeps. of_each_any (file_level s) sets places any_sort (value i v (read s b u x).term) (settled_at s places t) (settled s w) all (good.2 keeps))
+        (good.0, λ keeps. of_each_any unit sets places any_sort (value i v (read s b u x).term) (settled_at s places t) (settled s w) all (good.2 keeps))
     passes_read b (as_wanted {k₁} {k' = l} {w} {t} {e = x} outside other h e) a is u at =
         let same = equated (settling s.known) k₁ l t w e a in
         let good = has_read b h (e.kept (settling s.known) a) (λ q. pointer_alike (settled s t) (settled s w) (heads_alike (settled s t) (settled s w) same) ∙ sym is ∙ q) u at in

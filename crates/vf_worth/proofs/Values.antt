@@ -12,7 +12,7 @@ use Rattle.vf_sorting.specs.Kinds.{is_pointer}
 use Rattle.vf_terms.specs.Settings.{settled}
 use Rattle.vf_terms.specs.Readings.{read, read_all}
 use Rattle.vf_worth.specs.Instances.{settled_at}
-use Rattle.vf_worth.specs.Declares.{Declared, file_level}
+use Rattle.vf_worth.specs.Declares.{Declared}
 use Rattle.vf_worth.specs.Worth.{HaveValues, Sets, passing}
 use Rattle.vf_worth.specs.Given.{FixpointsKeepSorts, HeadKeepsSorts, TermKeepsSorts, TermsKeepSorts}
 use Rattle.vf_worth.specs.Laws.{ReadingsFollowInSets, ReadingsFollowSorting, TermsKeepAll, ValuesHaveSorts}
@@ -20,14 +20,14 @@ use Rattle.vf_worth.proofs.Reading.{has_read, passes_read, passed_read}
 
 -- for all sets of values
 pub readings_follow_in_sets : ReadingsFollowInSets
-readings_follow_in_sets sets s i v g gives = record {
-  sorted = λ known then_known e t h a. let r = has_read s i v sets g gives false h a (λ q. absurd cc) (length known) refl in record { next = r.0; has_value = r.2 };
-  passed = λ known then_known w q e p a. let r = passes_read s i v sets g gives (is_pointer (settled s w)) p a refl (length known) refl in record { next = r.0; has_value = r.1 };
+readings_follow_in_sets sets d s i v g covers gives = record {
+  sorted = λ known then_known e t h a. let r = has_read d s i v sets g covers gives false h a (λ q. absurd cc) (length known) refl in record { next = r.0; has_value = r.2 };
+  passed = λ known then_known w q e p a. let r = passes_read d s i v sets g covers gives (is_pointer (settled s w)) p a refl (length known) refl in record { next = r.0; has_value = r.1 };
   all_passed = λ known then_known first n ts xs p a.
-      let r = passed_read s i v sets g gives p a (length known) refl in
+      let r = passed_read d s i v sets g covers gives p a (length known) refl in
       record {
         next = r.0;
-        have_values = λ keeps. subst (HaveValues (file_level s) sets (all_values i v (row (read_all s first n ts (length known) xs).terms))) (sym (map-map (settled_at s g) (instance first n) ts)) (r.1 keeps);
+        have_values = λ keeps. subst (HaveValues d sets (all_values i v (row (read_all s first n ts (length known) xs).terms))) (sym (map-map (settled_at s g) (instance first n) ts)) (r.1 keeps);
       };
 }
 
@@ -69,8 +69,8 @@ pub terms_keep_all : TermsKeepAll
 terms_keep_all d i v tests keeps x = term_keeps d i v (passing tests) keeps x
 
 pub values_have_sorts : ValuesHaveSorts
-values_have_sorts s i v tests g gives keeps known then_known e a =
-    let r = readings_follow_sorting tests s i v g gives in (
-      (λ t h. (r.sorted known then_known e t h a).has_value (term_keeps (file_level s) i v (passing tests) keeps (read s false (length known) e).term)),
-      (λ w q p. (r.passed known then_known w q e p a).has_value (term_keeps (file_level s) i v (passing tests) keeps (read s (is_pointer (settled s w)) (length known) e).term)),
+values_have_sorts d s i v tests g covers gives keeps known then_known e a =
+    let r = readings_follow_sorting tests d s i v g covers gives in (
+      (λ t h. (r.sorted known then_known e t h a).has_value (term_keeps d i v (passing tests) keeps (read s false (length known) e).term)),
+      (λ w q p. (r.passed known then_known w q e p a).has_value (term_keeps d i v (passing tests) keeps (read s (is_pointer (settled s w)) (length known) e).term)),
     )

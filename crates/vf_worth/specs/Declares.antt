@@ -49,3 +49,9 @@ pub data BuildsPredicates (d : Declared) (c : Identity) : Scheme → Type 0 wher
   declared : {ts : List Sort} → Declares d c (ghosts.Predicate ts) → BuildsPredicates d c (at_sort (predicate_sort ts))
   made : {k : PredicateConstructor} → Declares d c (ghosts.PredicateConstructor k) → BuildsPredicates d c (made_scheme k)
   later : {ts : List Sort} (x : List ℕ) (from : ℕ) → later_predicate d.scope x from ≡ Some ts → c ≡ identity_of d.paths (files_or_none (at_name d.scope.predicates d.scope.predicate_files x)) x → BuildsPredicates d c (at_sort (predicate_sort ts))
+
+-- what is declared and may be built by the second is so by the first
+pub record Covers (d e : Declared) : Type 0 where
+  pub declares : (c : Identity) (g : GhostDeclaration) → Declares e c g → Declares d c g
+  pub terms : (c : Identity) (x : Scheme) → BuildsTerms e c x → BuildsTerms d c x
+  pub predicates : (c : Identity) (x : Scheme) → BuildsPredicates e c x → BuildsPredicates d c x

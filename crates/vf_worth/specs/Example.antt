@@ -125,7 +125,7 @@ first_of_one = tree.application here (codes "first") (more_ghost_expr one_list (
 -- the fixpoints keep sorts, whatever values pass for those of type parameters; `first(cons(1, nil), 2)` has an unknown sort, which is that of whole numbers in the end, and its value is the number 1, of that sort
 pub record FirstHasItsSort : Type 0 where
   pub keeps : (tests : Tests) → FixpointsKeepSorts (file_level list_setting) list_interpretation (passing tests)
-  pub gives : (v : Valuation) (tests : Tests) (g : Instance) → GivesValues list_setting list_interpretation v (passing tests) g
+  pub gives : (v : Valuation) (tests : Tests) (g : Instance) → GivesValues (file_level list_setting) list_setting list_interpretation v (passing tests) g
   pub sorted : HasSort list_scope no_words [] first_of_one (leaf (heads.Unknown 0)) known_in_one
   pub agrees : AgreesAsTold (settling known_in_one) known_in_one
   pub has_value : (v : Valuation) (tests : Tests) → HasValue (file_level list_setting) (passing tests) (value list_interpretation v (read list_setting false 0 first_of_one).term) int_sort

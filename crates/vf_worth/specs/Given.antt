@@ -17,16 +17,16 @@ use Rattle.vf_sorting.specs.Schemes.{sort_of_local}
 use Rattle.vf_terms.specs.Settings.{Setting}
 use Rattle.vf_terms.specs.Named.{local_term}
 use Rattle.vf_worth.specs.Instances.{Instance, placed, settled_at}
-use Rattle.vf_worth.specs.Declares.{Declared, Declares, file_level}
+use Rattle.vf_worth.specs.Declares.{Declared, Declares}
 use Rattle.vf_worth.specs.Worth.{HasValue, HaveValues, Sets}
 
--- the locals, the result, `this` and the current thread have terms with values of their sorts, each where it may stand
-pub record GivesValues (s : Setting) (i : Interpretation) (v : Valuation) (sets : Sets) (g : Instance) : Type 0 where
+-- the locals, the result, `this` and the current thread have terms with values of their sorts by what is declared, each where it may stand
+pub record GivesValues (d : Declared) (s : Setting) (i : Interpretation) (v : Valuation) (sets : Sets) (g : Instance) : Type 0 where
   pub aligned : IsAligned s.scope.locals
-  pub locals : (n : ℕ) (l : Local) → slice_get s.scope.locals.meanings n ≡ Some l → HasValue (file_level s) sets (value i v (local_term (slice_get s.locals n))) (settled_at s g (sort_of_local l))
-  pub result : (t : Sort) → s.context.result ≡ Some t → HasValue (file_level s) sets (value i v s.result) (settled_at s g t)
-  pub this_value : s.context.has_this ≡ true → HasValue (file_level s) sets (value i v s.this_value) pointer_sort
-  pub thread : s.context.has_thread ≡ true → HasValue (file_level s) sets (value i v s.thread) int_sort
+  pub locals : (n : ℕ) (l : Local) → slice_get s.scope.locals.meanings n ≡ Some l → HasValue d sets (value i v (local_term (slice_get s.locals n))) (settled_at s g (sort_of_local l))
+  pub result : (t : Sort) → s.context.result ≡ Some t → HasValue d sets (value i v s.result) (settled_at s g t)
+  pub this_value : s.context.has_this ≡ true → HasValue d sets (value i v s.this_value) pointer_sort
+  pub thread : s.context.has_thread ≡ true → HasValue d sets (value i v s.thread) int_sort
 
 -- a fixpoint keeps sorts at some values: where these are of its arguments' sorts, whatever sorts stand for its type parameters, it gives a value of its result's sort
 abbrev pub KeepsSortsAt : Declared → Interpretation → Sets → Identity → Values → Type 0

@@ -2,6 +2,7 @@ pub mod Instances
 pub mod Declares
 pub mod Worth
 pub mod Given
+pub mod Covering
 pub mod Agreement
 pub mod Laws
 pub mod Telling

@@ -1,6 +1,7 @@
 //! Laws of the terms of ghost expressions. Each function does nothing; its contract is the law.
 
 ghost use Rattle.vf_worth.specs.Agreement.{AgreementGoesBack};
+ghost use Rattle.vf_worth.specs.Covering.{CoversCompose, CoversKeepValues, EachCoversItself};
 ghost use Rattle.vf_worth.specs.Example.{FirstHasItsSort};
 ghost use Rattle.vf_worth.specs.Laws.{ReadingsFollowSorting, TermsKeepAll, ValuesHaveSorts};
 ghost use Rattle.vf_worth.specs.Telling.{SortsTellValues};
@@ -11,10 +12,26 @@ pub fn agreement_goes_back()
     ensures { AgreementGoesBack }
 {}
 
+/// What is declared covers itself.
+pub fn each_covers_itself()
+    ensures { EachCoversItself }
+{}
+
+/// What covers a cover covers what that one does.
+pub fn covers_compose()
+    ensures { CoversCompose }
+{}
+
+/// Values of sorts stay values of these where more is declared, and may be built.
+pub fn covers_keep_values()
+    ensures { CoversKeepValues }
+{}
+
 /// Where the terms that stand in a setting have values of their sorts, the term of an expression that has a sort has a
 /// value of that sort as it is known in the end, if the fixpoints that the term applies keep sorts there: whatever sorts
 /// stand for the type parameters of the text, and whatever values pass for those of type parameters in these. And the
-/// unknown sorts behind the expression are numbered as they are where it is sorted.
+/// unknown sorts behind the expression are numbered as they are where it is sorted. The values may be told where more is
+/// declared than in the setting.
 pub fn readings_follow_sorting()
     ensures { ReadingsFollowSorting }
 {}
@@ -25,7 +42,8 @@ pub fn terms_keep_all()
 {}
 
 /// Where the terms that stand in a setting have values of their sorts and fixpoints keep sorts, the term of an
-/// expression that has a sort, or passes for a wanted one, has a value of that sort as it is known in the end.
+/// expression that has a sort, or passes for a wanted one, has a value of that sort as it is known in the end; here too
+/// more may be declared where values are told.
 pub fn values_have_sorts()
     ensures { ValuesHaveSorts }
 {}

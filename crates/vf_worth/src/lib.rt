@@ -7,6 +7,7 @@
 mod laws;
 
 pub use laws::{
-    agreement_goes_back, first_has_its_sort, readings_follow_sorting, sorts_tell_values,
-    terms_keep_all, values_have_sorts,
+    agreement_goes_back, covers_compose, covers_keep_values, each_covers_itself,
+    first_has_its_sort, readings_follow_sorting, sorts_tell_values, terms_keep_all,
+    values_have_sorts,
 };
