@@ -50,12 +50,13 @@ use Rattle.vf_definitions.specs.declared.fixpoint.Body.{Body}
 use Rattle.vf_definitions.specs.declared.fixpoint.Body.TheVariants as bodies
 use Rattle.vf_definitions.specs.declared.fixpoint.Fixpoint as definitions
 use Rattle.vf_defining.specs.Symbols.{value_read, with_symbols}
-use Rattle.vf_defining.specs.Bodies.{case_of, cases_of, place_among, place_or_first, within_case}
+use Rattle.vf_defining.specs.Bodies.{case_of, cases_of, identity_at, place_among, place_or_first, within_case}
 use Rattle.vf_defining.specs.Fixpoints.{Defines}
 use Rattle.vf_defining.specs.Fixpoints as defined
+use Rattle.vf_defining.specs.UpTo.{up_to}
 use Rattle.vf_defining.specs.Units.{within_fixpoint}
 use Rattle.vf_worth.specs.Instances.{Instance, all_placed, placed, settled_at}
-use Rattle.vf_worth.specs.Declares.{BuildsTerms, Declared, Declares, constructed}
+use Rattle.vf_worth.specs.Declares.{BuildsTerms, Covers, Declared, Declares, constructed}
 use Rattle.vf_worth.specs.Worth.{HasValue, HaveValues, Sets, passing}
 use Rattle.vf_worth.specs.Given.{TermKeepsSorts}
 use Rattle.vf_worth.specs.Telling.{IsTermOf}
@@ -155,14 +156,14 @@ some_there None e = absurd cc
 same_constructor : {a b : Constructor} → ghosts.Constructor a ≡ ghosts.Constructor b → a ≡ b
 same_constructor e = cc
 
-module _ (s : Scope) (paths : List (List ℕ)) (arguments : List Sort) (result : Sort) (n : ℕ) (gs : List GhostParameter) (i : Interpretation) (sets : Sets) (g : Instance) (f : Filling)
-    (well : IsWellDeclared (declared_at s paths)) (known_arguments : Each (IsBelow 0) arguments) (known_result : IsBelow 0 result) (long : length gs ≡ length arguments)
+module _ (name : Name) (s : Scope) (paths : List (List ℕ)) (arguments : List Sort) (result : Sort) (n : ℕ) (gs : List GhostParameter) (i : Interpretation) (sets : Sets) (g : Instance) (f : Filling)
+    (well : IsWellDeclared (declared_at s paths)) (covers : Covers (declared_at s paths) (declared_at (up_to name s) paths)) (known_arguments : Each (IsBelow 0) arguments) (known_result : IsBelow 0 result) (long : length gs ≡ length arguments)
     (vs : Values) (have : HaveValues (declared_at s paths) sets vs (map (placed g f) arguments)) where
   abbrev D : Declared
   D = declared_at s paths
 
   abbrev Inner : Scope
-  Inner = within_fixpoint s gs arguments
+  Inner = within_fixpoint (up_to name s) gs arguments
 
   abbrev C : Context
   C = around_fixpoint n
@@ -181,8 +182,8 @@ module _ (s : Scope) (paths : List (List ℕ)) (arguments : List Sort) (result :
   pub returned : (e : GhostExprTree) (k : Known) → ValuePasses Inner C result [] e k → TermKeepsSorts D i (of_arguments vs) sets (value_read Inner C k paths result 0 e).term
       → HasValue D sets (value i (of_arguments vs) (value_read Inner C k paths result 0 e).term) (placed g f result)
   returned e k (passes below p) keeps =
-      let gives = gives_symbols Inner n k paths i sets g arguments vs inner_aligned refl (arguments_have (with_symbols Inner C k paths)) in
-      let follows = (readings_follow_in_sets sets (with_symbols Inner C k paths) i (of_arguments vs) g gives).passed [] k result (place_of e) e p (passing_settles Inner C [] k result (place_of e) e nothing_known below p) in
+      let gives = gives_symbols D Inner n k paths i sets g arguments vs inner_aligned refl (arguments_have (with_symbols Inner C k paths)) in
+      let follows = (readings_follow_in_sets sets D (with_symbols Inner C k paths) i (of_arguments vs) g covers gives).passed [] k result (place_of e) e p (passing_settles Inner C [] k result (place_of e) e nothing_known below p) in
       subst (HasValue D sets (value i (of_arguments vs) (value_read Inner C k paths result 0 e).term)) (settled_plain (with_symbols Inner C k paths) g f result known_result) (follows.has_value keeps)
 
   -- ---- a body that switches
@@ -264,7 +265,7 @@ module _ (s : Scope) (paths : List (List ℕ)) (arguments : List Sort) (result :
       of_case = case_told Inner paths d (h.written).pattern h.fits
 
       same_built : of_case.constructor_ ≡ b.constructor_
-      same_built = same_constructor (well.tells b.identity (ghosts.Constructor of_case.constructor_) (ghosts.Constructor b.constructor_) (subst (λ (c : Identity). Declares D c (ghosts.Constructor of_case.constructor_)) h.named of_case.declares) b.declares)
+      same_built = same_constructor (well.tells b.identity (ghosts.Constructor of_case.constructor_) (ghosts.Constructor b.constructor_) (subst (λ (c : Identity). Declares D c (ghosts.Constructor of_case.constructor_)) h.named (covers.declares (identity_at Inner paths (h.written).pattern.constructor) (ghosts.Constructor of_case.constructor_) of_case.declares)) b.declares)
 
       abbrev NameSorts : List Sort
       NameSorts = case_sorts Inner 0 M (h.written).pattern
@@ -292,8 +293,8 @@ module _ (s : Scope) (paths : List (List ℕ)) (arguments : List Sort) (result :
         where
           by : ValuePasses Within C result h.before (h.written).value h.behind → HasValue D sets (value i (of_arguments (appended vs b.parts)) (case_of C k' paths result M Inner (length h.before) h.written).result) (placed g f result)
           by (passes below_before q) =
-              let gives = gives_symbols Within n k' paths i sets g (arguments ++ NameSorts) (appended vs b.parts) within_aligned (sym (mapped_appended bound_local arguments NameSorts)) all_have in
-              let follows = (readings_follow_in_sets sets S i (of_arguments (appended vs b.parts)) g gives).passed h.before h.behind result (place_of (h.written).value) (h.written).value q h.agrees in
+              let gives = gives_symbols D Within n k' paths i sets g (arguments ++ NameSorts) (appended vs b.parts) within_aligned (sym (mapped_appended bound_local arguments NameSorts)) all_have in
+              let follows = (readings_follow_in_sets sets D S i (of_arguments (appended vs b.parts)) g covers gives).passed h.before h.behind result (place_of (h.written).value) (h.written).value q h.agrees in
               subst (HasValue D sets (value i (of_arguments (appended vs b.parts)) (case_of C k' paths result M Inner (length h.before) h.written).result)) (settled_plain S g f result known_result)
               (follows.has_value (subst (λ (c : Case). TermKeepsSorts D i (of_arguments (appended vs b.parts)) sets c.result) h.is keeps))
 
@@ -310,7 +311,7 @@ module _ (s : Scope) (paths : List (List ℕ)) (arguments : List Sort) (result :
             (case_has value_built y h (keeps value_built.identity value_built.parts y value_built.is there))
 
 -- ---- whole bodies
-module _ (sets : Sets) (s : Scope) (paths : List (List ℕ)) (x : declaration.Fixpoint) (k : definitions.Fixpoint) (i : Interpretation) (well : IsWellDeclared (declared_at s paths)) (vs : Values) (g : Instance) (f : Filling)
+module _ (sets : Sets) (name : Name) (s : Scope) (paths : List (List ℕ)) (x : declaration.Fixpoint) (k : definitions.Fixpoint) (i : Interpretation) (well : IsWellDeclared (declared_at s paths)) (covers : Covers (declared_at s paths) (declared_at (up_to name s) paths)) (vs : Values) (g : Instance) (f : Filling)
     (have : HaveValues (declared_at s paths) sets vs (map (placed g f) x.arguments)) where
   -- what is to be shown of a body that was defined for a result of a sort
   abbrev Goal : List GhostParameter → Sort → Body → Type 0
@@ -322,24 +323,24 @@ module _ (sets : Sets) (s : Scope) (paths : List (List ℕ)) (x : declaration.Fi
   Rest gs t b = k.parameters ≡ length gs → shown_kind k.kind ≡ kind_of_sort t → HasEachCase (declared_at s paths) x.arguments b → MeetsBody i k b → BodyKeepsSorts (declared_at s paths) i sets vs b
       → HasValue (declared_at s paths) sets (of_kind (kind_of_sort t) (i.fixpoint k.identity vs)) (placed g f t)
 
-  defined_gives : (n : ℕ) (gs : List GhostParameter) (text : FixpointBody) (b : Body) → Defines (within_fixpoint s gs x.arguments) paths n text b → Goal gs (result_of (within_fixpoint s gs x.arguments) n) b
+  defined_gives : (n : ℕ) (gs : List GhostParameter) (text : FixpointBody) (b : Body) → Defines (within_fixpoint (up_to name s) gs x.arguments) paths n text b → Goal gs (result_of (within_fixpoint (up_to name s) gs x.arguments) n) b
   defined_gives n gs text b (defined.value {e} {k = l} given) known sorts long = λ counted kind each meets keeps.
-      let t = result_of (within_fixpoint s gs x.arguments) n in
+      let t = result_of (within_fixpoint (up_to name s) gs x.arguments) n in
       let equal = meets vs (have_count (declared_at s paths) sets (placed g f) x.arguments vs have ∙ sym long ∙ sym counted) in
       subst (λ (w : Value). HasValue (declared_at s paths) sets w (placed g f t)) (sym equal ∙ ap (λ (q : Kind). of_kind q (i.fixpoint k.identity vs)) kind)
-      (returned s paths x.arguments t n gs i sets g f well sorts known long vs have e l given keeps)
+      (returned name s paths x.arguments t n gs i sets g f well covers sorts known long vs have e l given keeps)
   defined_gives n gs text b (defined.cases {x = nm} {cs} {m} {s'} {k = l} {k'} (switches {t} {d} sorted _ is_datatype all equates) given) known sorts long =
-      let inner = within_fixpoint s gs x.arguments in
+      let inner = within_fixpoint (up_to name s) gs x.arguments in
       let r = result_of inner n in
-      let aligned = inner_aligned s paths x.arguments r n gs i sets g f well sorts known long vs have in
+      let aligned = inner_aligned name s paths x.arguments r n gs i sets g f well covers sorts known long vs have in
       let u = datatype_told t d is_datatype in
       subst (λ (z : Scope). Rest gs r (bodies.Switches (place_among z nm) (cases_of (around_fixpoint n) k' paths r m z m cs))) (sym (scope_behind m (around_fixpoint n) r inner aligned cs l k' s' given))
-      (switched s paths x.arguments r n gs i sets g f well sorts known long vs have t d u.0 l k' cs s' (place_among inner nm) (local_told inner nm x.arguments t (number_of inner.locals.names nm.text) sorted) u.1 equates all given k)
+      (switched name s paths x.arguments r n gs i sets g f well covers sorts known long vs have t d u.0 l k' cs s' (place_among inner nm) (local_told inner nm x.arguments t (number_of inner.locals.names nm.text) sorted) u.1 equates all given k)
 
 pub bodies_give_sorts_in : (sets : Sets) → GivesItsSort sets
 bodies_give_sorts_in sets s paths x body k i well d meets vs g f have keeps =
-    let same : result_of (within_fixpoint s d.parameters x.arguments) d.number ≡ x.result = ap result_in d.stands in
-    subst (λ (t : Sort). Goal sets s paths x k i well vs g f have d.parameters t body) same (defined_gives sets s paths x k i well vs g f have d.number d.parameters d.text body d.defines)
+    let same : result_of (within_fixpoint (up_to d.name s) d.parameters x.arguments) d.number ≡ x.result = ap result_in d.stands in
+    subst (λ (t : Sort). Goal sets d.name s paths x k i well d.covers vs g f have d.parameters t body) same (defined_gives sets d.name s paths x k i well d.covers vs g f have d.number d.parameters d.text body d.defines)
     d.known_result d.known_arguments d.long d.counted d.kind d.each_case meets keeps
 
 pub bodies_give_sorts : BodiesGiveSorts

@@ -9,6 +9,7 @@ use Rattle.vf_sorts.specs.Unknowns.{Known, filled, settling}
 use Rattle.vf_syntax.specs.declared.item.FixpointBody.{FixpointBody}
 use Rattle.vf_syntax.specs.declared.item.FixpointCase.{FixpointCase}
 use Rattle.vf_syntax.specs.declared.item.Item.{Item}
+use Rattle.vf_syntax.specs.declared.written.Name.{Name}
 use Rattle.vf_declared.specs.declared.declaration.Fixpoint as declaration
 use Rattle.vf_declared.specs.declared.declaration.GhostDeclaration.TheVariants as ghosts
 use Rattle.vf_declared.specs.declared.locals.Local.{Local}
@@ -25,6 +26,7 @@ use Rattle.vf_definitions.specs.declared.fixpoint.Body.{Body}
 use Rattle.vf_definitions.specs.declared.fixpoint.Fixpoint as definitions
 use Rattle.vf_defining.specs.Symbols.{symbols_from, with_symbols}
 use Rattle.vf_defining.specs.Bodies.{behind_case, case_of, case_read, cases_of, within_case}
+use Rattle.vf_defining.specs.UpTo.{up_to}
 use Rattle.vf_defining.specs.Fixpoints.{Defines}
 use Rattle.vf_defining.specs.Fixpoints as defined
 use Rattle.vf_defining.specs.Units.{HaveDefinitions, within_fixpoint}
@@ -34,6 +36,7 @@ use Rattle.vf_worth.proofs.Operating.{first_of, second_of}
 use Rattle.vf_keeping.specs.Bodies.{IsWellDeclared, declared_at}
 use Rattle.vf_keeping.specs.Numbers.{BodyIsKinded, TermIsKinded}
 use Rattle.vf_keeping.specs.Applied.{AreOfIntegers, DefinedKeepIn, DefinedKeepSorts, DefinitionsAreKinded, IsSettingKinded}
+use Rattle.vf_keeping.proofs.Fronts.{front_declares}
 use Rattle.vf_keeping.proofs.Applied.{read_kinded}
 use Rattle.vf_keeping.proofs.Bodies.{some_there}
 use Rattle.vf_keeping.proofs.Cases.{same_case}
@@ -94,13 +97,17 @@ body_kinded fs s paths n text b integers (defined.value {e} {k} given) =
 body_kinded fs s paths n text b integers (defined.cases {cs} {m} {s'} {k'} front given) =
     cases_kinded fs (around_fixpoint n) k' paths (result_of s n) m cs s' m (subst (λ (d : Declared). AreOfIntegers d fs) (sym (level_behind paths given)) integers)
 
+-- what is declared up to a name has results of integers too
+front_integers : (n : Name) (s : Scope) (paths : List (List ℕ)) (fs : List definitions.Fixpoint) → AreOfIntegers (declared_at s paths) fs → AreOfIntegers (declared_at (up_to n s) paths) fs
+front_integers n s paths fs integers c e x is = integers c e x (front_declares n s paths c (ghosts.Fixpoint x) is)
+
 pub definitions_are_kinded : DefinitionsAreKinded
 definitions_are_kinded s paths items fs have well =
     let integers = of_integers s paths items fs have well in
-    (integers, λ k there. let h = definition_from s paths items fs have k there in body_kinded fs (within_fixpoint s (h.written).parameters (h.declared).arguments) paths h.number (h.written).body k.body integers h.defines)
+    (integers, λ k there. let h = definition_from s paths items fs have k there in body_kinded fs (within_fixpoint (up_to (h.written).name s) (h.written).parameters (h.declared).arguments) paths h.number (h.written).body k.body (front_integers (h.written).name s paths fs integers) h.defines)
 
 pub defined_keep_in : (sets : Sets) → DefinedKeepIn sets
-defined_keep_in sets s paths items fs i r have meets well written cases down = numbers_keep_in sets s paths items fs i r have meets well written cases down (definitions_are_kinded s paths items fs have well).1
+defined_keep_in sets s paths items fs i r have meets well written covered cases down = numbers_keep_in sets s paths items fs i r have meets well written covered cases down (definitions_are_kinded s paths items fs have well).1
 
 pub defined_keep_sorts : DefinedKeepSorts
 defined_keep_sorts tests = defined_keep_in (passing tests)

@@ -1,5 +1,5 @@
 -- Values follow sorting, where an interpretation gives the fixpoints of a unit the values of their bodies.
-use Rattle.std.proofs.Common.{◌≡◌, ℕ, Bool, false, List, length, sym, subst}
+use Rattle.std.proofs.Common.{ℕ, Bool, false, List, length, sym, subst}
 use Rattle.std.specs.Prelude.{slice_get}
 use Rattle.vf_model.specs.Values.{Value}
 use Rattle.vf_meaning.specs.Valuations.{Valuation}
@@ -9,6 +9,7 @@ use Rattle.vf_closure.specs.Values.{value}
 use Rattle.vf_sorts.specs.Sorts.{Sort}
 use Rattle.vf_syntax.specs.GhostExprTree.{GhostExprTree}
 use Rattle.vf_syntax.specs.declared.item.Item.{Item}
+use Rattle.vf_declared.specs.declared.declaration.GhostDeclaration.TheVariants as ghosts
 use Rattle.vf_declared.specs.declared.scope.Scope.{Scope}
 use Rattle.vf_sorting.specs.Kinds.{int_sort, is_pointer, pointer_sort}
 use Rattle.vf_sorting.specs.Schemes.{sort_of_local}
@@ -17,7 +18,7 @@ use Rattle.vf_terms.specs.Named.{local_term}
 use Rattle.vf_terms.specs.Readings.{read}
 use Rattle.vf_definitions.specs.declared.fixpoint.Fixpoint as definitions
 use Rattle.vf_worth.specs.Instances.{Instance, settled_at}
-use Rattle.vf_worth.specs.Declares.{Declared, file_level}
+use Rattle.vf_worth.specs.Declares.{Covers, Declared, file_level}
 use Rattle.vf_worth.specs.Given.{FixpointsKeepSorts, GivesValues}
 use Rattle.vf_worth.specs.Worth.{HasValue, Sets, passing}
 use Rattle.vf_worth.proofs.Values.{readings_follow_in_sets, term_keeps}
@@ -29,22 +30,25 @@ use Rattle.vf_keeping.proofs.Numbers.{term_same}
 use Rattle.vf_keeping.proofs.Applied.{read_kinded}
 use Rattle.vf_keeping.proofs.Defined.{defined_keep_in, definitions_are_kinded}
 
-module _ (sets : Sets) (u : Scope) (paths : List (List ℕ)) (items : List Item) (fs : List definitions.Fixpoint) (i : Interpretation) (unit : DefinesUnit u paths items fs i) (s : Setting) (v : Valuation) (g : Instance) (same : file_level s ≡ declared_at u paths)
-    (kinded : IsSettingKinded fs s) (gives : GivesValues s i v sets g) where
-  keeps : FixpointsKeepSorts (file_level s) (with_numbers fs i) sets
-  keeps = subst (λ (d : Declared). FixpointsKeepSorts d (with_numbers fs i) sets) (sym same) (defined_keep_in sets u paths items fs i unit.ranks unit.have unit.meets unit.well unit.written unit.cases unit.down)
+module _ (sets : Sets) (u : Scope) (paths : List (List ℕ)) (items : List Item) (fs : List definitions.Fixpoint) (i : Interpretation) (unit : DefinesUnit u paths items fs i) (s : Setting) (v : Valuation) (g : Instance) (covers : Covers (declared_at u paths) (file_level s))
+    (kinded : IsSettingKinded fs s) (gives : GivesValues (declared_at u paths) s i v sets g) where
+  abbrev D : Declared
+  D = declared_at u paths
+
+  keeps : FixpointsKeepSorts D (with_numbers fs i) sets
+  keeps = defined_keep_in sets u paths items fs i unit.ranks unit.have unit.meets unit.well unit.written unit.covered unit.cases unit.down
 
   integers : AreOfIntegers (file_level s) fs
-  integers = subst (λ (d : Declared). AreOfIntegers d fs) (sym same) (definitions_are_kinded u paths items fs unit.have unit.well).0
+  integers c e x is = (definitions_are_kinded u paths items fs unit.have unit.well).0 c e x (covers.declares c (ghosts.Fixpoint x) is)
 
   -- a value of a sort is one with numbers, and the other way round
-  to_numbers : (x : Term) (t : Sort) → TermIsKinded fs x → HasValue (file_level s) sets (value i v x) t → HasValue (file_level s) sets (value (with_numbers fs i) v x) t
-  to_numbers x t k h = subst (λ (w : Value). HasValue (file_level s) sets w t) (sym (term_same fs i v x k)) h
+  to_numbers : (x : Term) (t : Sort) → TermIsKinded fs x → HasValue D sets (value i v x) t → HasValue D sets (value (with_numbers fs i) v x) t
+  to_numbers x t k h = subst (λ (w : Value). HasValue D sets w t) (sym (term_same fs i v x k)) h
 
-  from_numbers : (x : Term) (t : Sort) → TermIsKinded fs x → HasValue (file_level s) sets (value (with_numbers fs i) v x) t → HasValue (file_level s) sets (value i v x) t
-  from_numbers x t k h = subst (λ (w : Value). HasValue (file_level s) sets w t) (term_same fs i v x k) h
+  from_numbers : (x : Term) (t : Sort) → TermIsKinded fs x → HasValue D sets (value (with_numbers fs i) v x) t → HasValue D sets (value i v x) t
+  from_numbers x t k h = subst (λ (w : Value). HasValue D sets w t) (term_same fs i v x k) h
 
-  gives_numbers : GivesValues s (with_numbers fs i) v sets g
+  gives_numbers : GivesValues D s (with_numbers fs i) v sets g
   gives_numbers = record {
     aligned = gives.aligned;
     locals = λ n l e. to_numbers (local_term (slice_get s.locals n)) (settled_at s g (sort_of_local l)) (kinded.locals n) (gives.locals n l e);
@@ -56,18 +60,18 @@ module _ (sets : Sets) (u : Scope) (paths : List (List ℕ)) (items : List Item)
   read_is : (w : Bool) (n : ℕ) (e : GhostExprTree) → TermIsKinded fs (read s w n e).term
   read_is w n e = read_kinded fs s integers kinded w n e
 
-  values_follow : ValuesFollow s i v sets g
+  values_follow : ValuesFollow D s i v sets g
   values_follow = record {
     sorted = λ known then_known e t h a.
         from_numbers (read s false (length known) e).term (settled_at s g t) (read_is false (length known) e)
-        (((readings_follow_in_sets sets s (with_numbers fs i) v g gives_numbers).sorted known then_known e t h a).has_value (term_keeps (file_level s) (with_numbers fs i) v sets keeps (read s false (length known) e).term));
+        (((readings_follow_in_sets sets D s (with_numbers fs i) v g covers gives_numbers).sorted known then_known e t h a).has_value (term_keeps D (with_numbers fs i) v sets keeps (read s false (length known) e).term));
     passed = λ known then_known w q e p a.
         from_numbers (read s (is_pointer (settled s w)) (length known) e).term (settled_at s g w) (read_is (is_pointer (settled s w)) (length known) e)
-        (((readings_follow_in_sets sets s (with_numbers fs i) v g gives_numbers).passed known then_known w q e p a).has_value (term_keeps (file_level s) (with_numbers fs i) v sets keeps (read s (is_pointer (settled s w)) (length known) e).term));
+        (((readings_follow_in_sets sets D s (with_numbers fs i) v g covers gives_numbers).passed known then_known w q e p a).has_value (term_keeps D (with_numbers fs i) v sets keeps (read s (is_pointer (settled s w)) (length known) e).term));
   }
 
 pub values_follow_in : (sets : Sets) → ValuesFollowIn sets
-values_follow_in sets u paths items fs i unit s v g same kinded gives = values_follow sets u paths items fs i unit s v g same kinded gives
+values_follow_in sets u paths items fs i unit s v g covers kinded gives = values_follow sets u paths items fs i unit s v g covers kinded gives
 
 pub values_follow_sorting : ValuesFollowSorting
 values_follow_sorting tests = values_follow_in (passing tests)

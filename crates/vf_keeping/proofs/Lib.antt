@@ -5,6 +5,7 @@ pub mod Symbols
 pub mod Cases
 pub mod Arguments
 pub mod Patterns
+pub mod Fronts
 pub mod Bodies
 pub mod Recursion
 pub mod Units

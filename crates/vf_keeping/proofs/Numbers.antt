@@ -23,6 +23,7 @@ use Rattle.vf_definitions.specs.Unfolded.{fixpoint_for, same_kind}
 use Rattle.vf_definitions.specs.declared.fixpoint.Body.{Body}
 use Rattle.vf_definitions.specs.declared.fixpoint.Body.TheVariants.{Returns, Switches}
 use Rattle.vf_definitions.specs.declared.fixpoint.Fixpoint as definitions
+use Rattle.vf_defining.specs.UpTo.{up_to}
 use Rattle.vf_defining.specs.Bodies.{identity_at}
 use Rattle.vf_defining.specs.Fixpoints.{Defines}
 use Rattle.vf_defining.specs.Units.{HaveDefinitions, no_items, more_items, IsNumbered, ItemDefines, other_item, stray_item, fixpoint, Written, definition_of, kinds_of_sort, within_fixpoint}
@@ -168,7 +169,7 @@ pub record IsFrom (s : Scope) (paths : List (List ℕ)) (all : List definitions.
   pub written : Written
   pub number : ℕ
   pub declared : declaration.Fixpoint
-  pub defines : Defines (within_fixpoint s written.parameters declared.arguments) paths number written.body x.body
+  pub defines : Defines (within_fixpoint (up_to written.name s) written.parameters declared.arguments) paths number written.body x.body
   pub declares : Declares (declared_at s paths) x.identity (ghosts.Fixpoint declared)
   pub integers : kind_of_sort declared.result ≡ Integer → shown_kind x.kind ≡ Integer
   pub own : definitions.Fixpoint
@@ -256,8 +257,8 @@ gives_kinds sets s paths items fs i have well written c x is vs g f values = by 
     by Integer e = number_given (gives_integers fs c) (i.fixpoint c vs) (integers_given s paths items fs i have well c x is (written c x is) e)
 
 pub numbers_keep_in : (sets : Sets) → NumbersKeepIn sets
-numbers_keep_in sets s paths items fs i r have meets well written cases down kinded =
-    unit_keeps_in sets s paths items fs (with_numbers fs i) r have (numbers_meet_definitions fs i kinded meets) well written cases down (gives_kinds sets s paths items fs i have well written)
+numbers_keep_in sets s paths items fs i r have meets well written covered cases down kinded =
+    unit_keeps_in sets s paths items fs (with_numbers fs i) r have (numbers_meet_definitions fs i kinded meets) well written covered cases down (gives_kinds sets s paths items fs i have well written)
 
 pub numbers_keep_sorts : NumbersKeepSorts
 numbers_keep_sorts tests = numbers_keep_in (passing tests)

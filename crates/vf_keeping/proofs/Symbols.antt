@@ -17,7 +17,7 @@ use Rattle.vf_terms.specs.Settings.{Setting, settled}
 use Rattle.vf_terms.specs.Named.{local_term}
 use Rattle.vf_defining.specs.Symbols.{symbol_of, symbols_from, with_symbols}
 use Rattle.vf_worth.specs.Instances.{Instance, settled_at}
-use Rattle.vf_worth.specs.Declares.{Declared, file_level}
+use Rattle.vf_worth.specs.Declares.{Declared}
 use Rattle.vf_worth.specs.Worth.{HasValue, HaveValues, Sets}
 use Rattle.vf_worth.specs.Given.{GivesValues}
 use Rattle.vf_worth.proofs.Having.{kinded}
@@ -38,19 +38,19 @@ value_there d sets F (t ∷ ts) none m l h e = absurd h
 value_there d sets F (t ∷ ts) (more w ws) zero l h e = let q : bound_local t ≡ l = cc in subst (λ (z : Local). HasValue d sets w (F (sort_of_local z))) q h.0
 value_there d sets F (t ∷ ts) (more w ws) (suc m) l h e = value_there d sets F ts ws m l h.1 e
 
-module _ (u : Scope) (n : ℕ) (k : Known) (paths : List (List ℕ)) (i : Interpretation) (sets : Sets) (g : Instance) where
+module _ (d : Declared) (u : Scope) (n : ℕ) (k : Known) (paths : List (List ℕ)) (i : Interpretation) (sets : Sets) (g : Instance) where
   -- the setting in which locals stand for arguments
   abbrev pub In : Setting
   In = with_symbols u (around_fixpoint n) k paths
 
   -- its locals have values, where the arguments have
-  pub gives_symbols : (ts : List Sort) (ws : Values) → IsAligned u.locals → u.locals.meanings ≡ map bound_local ts → HaveValues (file_level In) sets ws (map (settled_at In g) ts) → GivesValues In i (of_arguments ws) sets g
+  pub gives_symbols : (ts : List Sort) (ws : Values) → IsAligned u.locals → u.locals.meanings ≡ map bound_local ts → HaveValues d sets ws (map (settled_at In g) ts) → GivesValues d In i (of_arguments ws) sets g
   gives_symbols ts ws aligned same have = record {
     aligned = aligned;
     locals = λ m l e.
-        subst (λ o. HasValue (file_level In) sets (value i (of_arguments ws) (local_term o)) (settled_at In g (sort_of_local l))) (sym (symbol_there k u.locals.meanings 0 m m l (omega arith) e))
-        (kinded (file_level In) sets g any_sort (value_at ws m) (settled In (sort_of_local l))
-        (value_there (file_level In) sets (settled_at In g) ts ws m l have (subst (λ (ms : List Local). slice_get ms m ≡ Some l) same e)));
+        subst (λ o. HasValue d sets (value i (of_arguments ws) (local_term o)) (settled_at In g (sort_of_local l))) (sym (symbol_there k u.locals.meanings 0 m m l (omega arith) e))
+        (kinded d sets g any_sort (value_at ws m) (settled In (sort_of_local l))
+        (value_there d sets (settled_at In g) ts ws m l have (subst (λ (ms : List Local). slice_get ms m ≡ Some l) same e)));
     result = λ t e. absurd cc;
     this_value = λ e. absurd cc;
     thread = λ e. absurd cc;

@@ -18,13 +18,14 @@ use Rattle.vf_terms.specs.Settings.{kind_of_sort}
 use Rattle.vf_definitions.specs.Laws.{MeetsDefinitions}
 use Rattle.vf_definitions.specs.declared.fixpoint.Body.{Body}
 use Rattle.vf_definitions.specs.declared.fixpoint.Fixpoint as definitions
+use Rattle.vf_defining.specs.UpTo.{up_to}
 use Rattle.vf_defining.specs.Fixpoints.{Defines}
 use Rattle.vf_defining.specs.Units.{HaveDefinitions, more_items, IsNumbered, ItemDefines, other_item, stray_item, fixpoint, Written, definition_of, kinds_of_sort, within_fixpoint, written_in}
 use Rattle.vf_worth.specs.Declares.{Declares}
 use Rattle.vf_worth.specs.Worth.{Sets, passing}
 use Rattle.vf_keeping.specs.Bodies.{declared_at}
 use Rattle.vf_keeping.specs.Recursion.{BodyGoesDown, IsKept, Ranks}
-use Rattle.vf_keeping.specs.Units.{GoDown, HaveEachCase, IsWritten, UnitKeepsIn, UnitsKeepSorts}
+use Rattle.vf_keeping.specs.Units.{EachIsCovered, GoDown, HaveEachCase, IsWritten, UnitKeepsIn, UnitsKeepSorts}
 use Rattle.vf_keeping.proofs.Recursion.{kept_in}
 
 -- ---- lists
@@ -95,21 +96,21 @@ same_fixpoint e = cc
 -- a fixpoint that stands among items has a body, and a definition with it of its result's kind
 pub record HasDefinition (s : Scope) (paths : List (List ℕ)) (items : List Item) (fs : List definitions.Fixpoint) (c : Identity) (x : declaration.Fixpoint) (w : IsWritten s paths items c x) : Type 0 where
   pub body : Body
-  pub defines : Defines (within_fixpoint s (w.written).parameters x.arguments) paths w.number (w.written).body body
+  pub defines : Defines (within_fixpoint (up_to (w.written).name s) (w.written).parameters x.arguments) paths w.number (w.written).body body
   pub there : Contains fs (definition_of s paths w.written body (own_kind x.result))
 
 module _ (s : Scope) (paths : List (List ℕ)) (items : List Item) (fs : List definitions.Fixpoint) (c : Identity) (x : declaration.Fixpoint) (w : IsWritten s paths items c x) where
   -- the body that the item has is that of the fixpoint
-  written_has : (v : Written) → v ≡ w.written → (n : ℕ) (f : declaration.Fixpoint) → IsNumbered s v n f → (b : Body) → Defines (within_fixpoint s v.parameters f.arguments) paths n v.body b → ((k : definitions.Fixpoint) → Contains (map (definition_of s paths v b) (kinds_of_sort f.result)) k → Contains fs k) → HasDefinition s paths items fs c x w
+  written_has : (v : Written) → v ≡ w.written → (n : ℕ) (f : declaration.Fixpoint) → IsNumbered s v n f → (b : Body) → Defines (within_fixpoint (up_to v.name s) v.parameters f.arguments) paths n v.body b → ((k : definitions.Fixpoint) → Contains (map (definition_of s paths v b) (kinds_of_sort f.result)) k → Contains fs k) → HasDefinition s paths items fs c x w
   written_has v same n f numbered b defines among =
       let one : n ≡ w.number = same_number (sym numbered.means ∙ ap (λ (z : Written). declaration_of s z.name.text z.name.place.file) same ∙ (w.numbered).means) in
       let two : f ≡ x = same_fixpoint (sym numbered.is ∙ ap (ghost_of s) one ∙ (w.numbered).is) in
-      let at_written = subst (λ (z : Written). Defines (within_fixpoint s z.parameters f.arguments) paths n z.body b) same defines in
-      let at_number = subst (λ (m : ℕ). Defines (within_fixpoint s (w.written).parameters f.arguments) paths m (w.written).body b) one at_written in
+      let at_written = subst (λ (z : Written). Defines (within_fixpoint (up_to z.name s) z.parameters f.arguments) paths n z.body b) same defines in
+      let at_number = subst (λ (m : ℕ). Defines (within_fixpoint (up_to (w.written).name s) (w.written).parameters f.arguments) paths m (w.written).body b) one at_written in
       let at = subst (λ (z : Written). Contains fs (definition_of s paths z b (own_kind f.result))) same (among (definition_of s paths v b (own_kind f.result)) (in_mapped (definition_of s paths v b) (kinds_of_sort f.result) (own_kind f.result) (own_there f.result))) in
       record {
         body = b;
-        defines = subst (λ (y : declaration.Fixpoint). Defines (within_fixpoint s (w.written).parameters y.arguments) paths w.number (w.written).body b) two at_number;
+        defines = subst (λ (y : declaration.Fixpoint). Defines (within_fixpoint (up_to (w.written).name s) (w.written).parameters y.arguments) paths w.number (w.written).body b) two at_number;
         there = subst (λ (y : declaration.Fixpoint). Contains fs (definition_of s paths w.written b (own_kind y.result))) two at;
       }
 
@@ -122,14 +123,15 @@ module _ (s : Scope) (paths : List (List ℕ)) (items : List Item) (fs : List de
   has_definition have = let h = item_there s paths items fs w.item have w.among in item_has w.item h.own h.defines w.is h.among
 
   -- where definitions are met, have a case for each constructor and go down, so does it
-  defined_kept : (i : Interpretation) (r : Ranks) → MeetsDefinitions i fs → HaveEachCase (declared_at s paths) fs → GoDown r fs → Declares (declared_at s paths) c (ghosts.Fixpoint x) → HasDefinition s paths items fs c x w → IsKept s paths i r c x
-  defined_kept i r meets cases down is h =
+  defined_kept : (i : Interpretation) (r : Ranks) → MeetsDefinitions i fs → EachIsCovered s paths items → HaveEachCase (declared_at s paths) fs → GoDown r fs → Declares (declared_at s paths) c (ghosts.Fixpoint x) → HasDefinition s paths items fs c x w → IsKept s paths i r c x
+  defined_kept i r meets covered cases down is h =
       let k = definition_of s paths w.written h.body (own_kind x.result) in
       record {
         body = h.body;
         definition = k;
         identity = w.identity;
         defined = record {
+          name = (w.written).name;
           number = w.number;
           parameters = (w.written).parameters;
           text = (w.written).body;
@@ -137,6 +139,7 @@ module _ (s : Scope) (paths : List (List ℕ)) (items : List Item) (fs : List de
           known_result = w.known_result;
           known_arguments = w.known_arguments;
           long = w.long;
+          covers = covered w.item w.written w.among w.is;
           defines = h.defines;
           each_case = cases k h.there x (subst (λ (z : Identity). Declares (declared_at s paths) z (ghosts.Fixpoint x)) (sym w.identity) is);
           counted = refl;
@@ -147,8 +150,8 @@ module _ (s : Scope) (paths : List (List ℕ)) (items : List Item) (fs : List de
       }
 
 pub unit_keeps_in : (sets : Sets) → UnitKeepsIn sets
-unit_keeps_in sets s paths items fs i r have meets well written cases down kinds =
-    kept_in sets s paths i r well (λ c x is. let w = written c x is in defined_kept s paths items fs c x w i r meets cases down is (has_definition s paths items fs c x w have)) kinds
+unit_keeps_in sets s paths items fs i r have meets well written covered cases down kinds =
+    kept_in sets s paths i r well (λ c x is. let w = written c x is in defined_kept s paths items fs c x w i r meets covered cases down is (has_definition s paths items fs c x w have)) kinds
 
 pub units_keep_sorts : UnitsKeepSorts
 units_keep_sorts tests = unit_keeps_in (passing tests)

@@ -19,7 +19,7 @@ use Rattle.vf_worth.specs.Given.{FixpointsKeepSorts}
 use Rattle.vf_worth.specs.Worth.{Sets, Tests, passing}
 use Rattle.vf_keeping.specs.Bodies.{IsWellDeclared, declared_at}
 use Rattle.vf_keeping.specs.Recursion.{Ranks}
-use Rattle.vf_keeping.specs.Units.{EachIsWritten, GoDown, HaveEachCase}
+use Rattle.vf_keeping.specs.Units.{EachIsCovered, EachIsWritten, GoDown, HaveEachCase}
 use Rattle.vf_keeping.specs.Numbers.{AreKinded, TermIsKinded, gives_integers, with_numbers}
 
 -- a declared fixpoint that has definitions for integers alone has a result of integers
@@ -45,7 +45,7 @@ DefinitionsAreKinded = (s : Scope) (paths : List (List ℕ)) (items : List Item)
 abbrev pub DefinedKeepIn : Sets → Type 0
 DefinedKeepIn sets =
     (s : Scope) (paths : List (List ℕ)) (items : List Item) (fs : List definitions.Fixpoint) (i : Interpretation) (r : Ranks)
-    → HaveDefinitions s paths items fs → MeetsDefinitions i fs → IsWellDeclared (declared_at s paths) → EachIsWritten s paths items → HaveEachCase (declared_at s paths) fs → GoDown r fs
+    → HaveDefinitions s paths items fs → MeetsDefinitions i fs → IsWellDeclared (declared_at s paths) → EachIsWritten s paths items → EachIsCovered s paths items → HaveEachCase (declared_at s paths) fs → GoDown r fs
     → FixpointsKeepSorts (declared_at s paths) (with_numbers fs i) sets
 
 -- the same for all sets that are told by tests

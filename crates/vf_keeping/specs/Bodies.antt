@@ -12,6 +12,7 @@ use Rattle.vf_sorts.specs.Sorts.{Sort, Sorts, sort}
 use Rattle.vf_sorts.specs.Unknowns.{Filling, IsBelow}
 use Rattle.vf_syntax.specs.declared.item.FixpointBody.{FixpointBody}
 use Rattle.vf_syntax.specs.declared.item.GhostParameter.{GhostParameter}
+use Rattle.vf_syntax.specs.declared.written.Name.{Name}
 use Rattle.vf_declared.specs.declared.declaration.Constructor.{Constructor}
 use Rattle.vf_declared.specs.declared.declaration.Fixpoint as declaration
 use Rattle.vf_declared.specs.declared.declaration.GhostDeclaration.{GhostDeclaration}
@@ -28,9 +29,10 @@ use Rattle.vf_definitions.specs.declared.fixpoint.Body.TheVariants.{Returns, Swi
 use Rattle.vf_definitions.specs.declared.fixpoint.Fixpoint as definitions
 use Rattle.vf_defining.specs.Fixpoints.{Defines}
 use Rattle.vf_defining.specs.Symbols.{without_locals}
+use Rattle.vf_defining.specs.UpTo.{up_to}
 use Rattle.vf_defining.specs.Units.{within_fixpoint}
 use Rattle.vf_worth.specs.Instances.{Instance, placed}
-use Rattle.vf_worth.specs.Declares.{Declared, Declares}
+use Rattle.vf_worth.specs.Declares.{Covers, Declared, Declares}
 use Rattle.vf_worth.specs.Worth.{HasValue, HaveValues, Sets, Tests, passing}
 use Rattle.vf_worth.specs.Given.{TermKeepsSorts}
 use Rattle.vf_keeping.specs.Closed.{Each, IsClosed}
@@ -54,8 +56,9 @@ abbrev pub HasEachCase : Declared → List Sort → Body → Type 0
 HasEachCase d ts (Returns t) = Unit {0}
 HasEachCase d ts (Switches k cases) = (n : ℕ) (us : Sorts) → slice_get ts k ≡ Some (sort (heads.Datatype n) us) → (c : Identity) (x : Constructor) → Declares d c (ghosts.Constructor x) → x.datatype ≡ n → is_some (case_for cases c) ≡ true
 
--- a declared fixpoint with a body as terms, and its definition for the kind of its result's sort
+-- a declared fixpoint with a body as terms, where its name is the last of file level and all that is declared covers what is so up to it, and its definition for the kind of its result's sort
 pub record IsDefinedBy (s : Scope) (paths : List (List ℕ)) (x : declaration.Fixpoint) (body : Body) (k : definitions.Fixpoint) : Type 0 where
+  pub name : Name
   pub number : ℕ
   pub parameters : List GhostParameter
   pub text : FixpointBody
@@ -63,7 +66,8 @@ pub record IsDefinedBy (s : Scope) (paths : List (List ℕ)) (x : declaration.Fi
   pub known_result : IsBelow 0 x.result
   pub known_arguments : Each (IsBelow 0) x.arguments
   pub long : length parameters ≡ length x.arguments
-  pub defines : Defines (within_fixpoint s parameters x.arguments) paths number text body
+  pub covers : Covers (declared_at s paths) (declared_at (up_to name s) paths)
+  pub defines : Defines (within_fixpoint (up_to name s) parameters x.arguments) paths number text body
   pub each_case : HasEachCase (declared_at s paths) x.arguments body
   pub counted : k.parameters ≡ length parameters
   pub kind : shown_kind k.kind ≡ kind_of_sort x.result

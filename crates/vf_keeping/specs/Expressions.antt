@@ -1,5 +1,5 @@
 -- Terms of expressions that have sorts have values of them, where an interpretation gives the fixpoints of a unit the values of their bodies.
-use Rattle.std.specs.Prelude.{◌≡◌, ℕ, false, List, length}
+use Rattle.std.specs.Prelude.{ℕ, false, List, length}
 use Rattle.vf_base.specs.declared.place.Place.{Place}
 use Rattle.vf_meaning.specs.Valuations.{Valuation}
 use Rattle.vf_meaning.specs.GhostValues.{Interpretation}
@@ -17,12 +17,12 @@ use Rattle.vf_definitions.specs.Laws.{MeetsDefinitions}
 use Rattle.vf_definitions.specs.declared.fixpoint.Fixpoint as definitions
 use Rattle.vf_defining.specs.Units.{HaveDefinitions}
 use Rattle.vf_worth.specs.Instances.{Instance, settled_at}
-use Rattle.vf_worth.specs.Declares.{file_level}
+use Rattle.vf_worth.specs.Declares.{Covers, Declared, file_level}
 use Rattle.vf_worth.specs.Given.{GivesValues}
 use Rattle.vf_worth.specs.Worth.{HasValue, Sets, Tests, passing}
 use Rattle.vf_keeping.specs.Bodies.{IsWellDeclared, declared_at}
 use Rattle.vf_keeping.specs.Recursion.{Ranks}
-use Rattle.vf_keeping.specs.Units.{EachIsWritten, GoDown, HaveEachCase}
+use Rattle.vf_keeping.specs.Units.{EachIsCovered, EachIsWritten, GoDown, HaveEachCase}
 use Rattle.vf_keeping.specs.Applied.{IsSettingKinded}
 
 -- an interpretation gives the fixpoints that items declare the values of their bodies, which have a case for each constructor, and whose applications go down in some order
@@ -31,22 +31,23 @@ pub record DefinesUnit (s : Scope) (paths : List (List ℕ)) (items : List Item)
   pub meets : MeetsDefinitions i fs
   pub well : IsWellDeclared (declared_at s paths)
   pub written : EachIsWritten s paths items
+  pub covered : EachIsCovered s paths items
   pub cases : HaveEachCase (declared_at s paths) fs
   pub ranks : Ranks
   pub down : GoDown ranks fs
 
--- what is read in a setting of an expression that has a sort, or passes for one, has a value of it
-pub record ValuesFollow (s : Setting) (i : Interpretation) (v : Valuation) (sets : Sets) (g : Instance) : Type 0 where
+-- what is read in a setting of an expression that has a sort, or passes for one, has a value of it by what is declared
+pub record ValuesFollow (d : Declared) (s : Setting) (i : Interpretation) (v : Valuation) (sets : Sets) (g : Instance) : Type 0 where
   pub sorted : (known then_known : Known) (e : GhostExprTree) (t : Sort) → HasSort s.scope s.context known e t then_known → AgreesAsTold (settling s.known) then_known
-      → HasValue (file_level s) sets (value i v (read s false (length known) e).term) (settled_at s g t)
+      → HasValue d sets (value i v (read s false (length known) e).term) (settled_at s g t)
   pub passed : (known then_known : Known) (w : Sort) (q : Place) (e : GhostExprTree) → Passes s.scope s.context known w q e then_known → AgreesAsTold (settling s.known) then_known
-      → HasValue (file_level s) sets (value i v (read s (is_pointer (settled s w)) (length known) e).term) (settled_at s g w)
+      → HasValue d sets (value i v (read s (is_pointer (settled s w)) (length known) e).term) (settled_at s g w)
 
--- where the terms that stand in a setting have values of their sorts, and apply fixpoints with results of integers as such, values follow sorting
+-- where a unit covers what a setting declares at file level, and the terms that stand in the setting have values of their sorts, and apply fixpoints with results of integers as such, values follow sorting
 abbrev pub ValuesFollowIn : Sets → Type 0
 ValuesFollowIn sets =
     (u : Scope) (paths : List (List ℕ)) (items : List Item) (fs : List definitions.Fixpoint) (i : Interpretation) → DefinesUnit u paths items fs i
-    → (s : Setting) (v : Valuation) (g : Instance) → file_level s ≡ declared_at u paths → IsSettingKinded fs s → GivesValues s i v sets g → ValuesFollow s i v sets g
+    → (s : Setting) (v : Valuation) (g : Instance) → Covers (declared_at u paths) (file_level s) → IsSettingKinded fs s → GivesValues (declared_at u paths) s i v sets g → ValuesFollow (declared_at u paths) s i v sets g
 
 -- so they do for all sets that are told by tests
 abbrev pub ValuesFollowSorting : Type 0

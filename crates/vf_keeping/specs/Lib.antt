@@ -1,6 +1,7 @@
 pub mod Closed
 pub mod Resolved
 pub mod Bodies
+pub mod Fronts
 pub mod Recursion
 pub mod Units
 pub mod Numbers

@@ -18,7 +18,7 @@ use Rattle.vf_worth.specs.Given.{FixpointsKeepSorts}
 use Rattle.vf_worth.specs.Worth.{Sets, Tests, passing}
 use Rattle.vf_keeping.specs.Bodies.{IsWellDeclared, declared_at}
 use Rattle.vf_keeping.specs.Recursion.{Ranks}
-use Rattle.vf_keeping.specs.Units.{EachIsWritten, GoDown, HaveEachCase}
+use Rattle.vf_keeping.specs.Units.{EachIsCovered, EachIsWritten, GoDown, HaveEachCase}
 
 -- a fixpoint has definitions for integers, and for nothing else
 abbrev pub gives_integers : List definitions.Fixpoint → Identity → Bool
@@ -64,7 +64,7 @@ NumbersMeetDefinitions = (fs : List definitions.Fixpoint) (i : Interpretation) �
 abbrev pub NumbersKeepIn : Sets → Type 0
 NumbersKeepIn sets =
     (s : Scope) (paths : List (List ℕ)) (items : List Item) (fs : List definitions.Fixpoint) (i : Interpretation) (r : Ranks)
-    → HaveDefinitions s paths items fs → MeetsDefinitions i fs → IsWellDeclared (declared_at s paths) → EachIsWritten s paths items → HaveEachCase (declared_at s paths) fs → GoDown r fs → AreKinded fs
+    → HaveDefinitions s paths items fs → MeetsDefinitions i fs → IsWellDeclared (declared_at s paths) → EachIsWritten s paths items → EachIsCovered s paths items → HaveEachCase (declared_at s paths) fs → GoDown r fs → AreKinded fs
     → FixpointsKeepSorts (declared_at s paths) (with_numbers fs i) sets
 
 -- so it is for all sets that are told by tests

@@ -9,9 +9,10 @@ use Rattle.vf_declared.specs.declared.declaration.GhostDeclaration.TheVariants a
 use Rattle.vf_declared.specs.declared.scope.Scope.{Scope}
 use Rattle.vf_definitions.specs.Laws.{MeetsDefinitions}
 use Rattle.vf_definitions.specs.declared.fixpoint.Fixpoint as definitions
+use Rattle.vf_defining.specs.UpTo.{up_to}
 use Rattle.vf_defining.specs.Bodies.{identity_at}
 use Rattle.vf_defining.specs.Units.{HaveDefinitions, IsNumbered, Written, written_in}
-use Rattle.vf_worth.specs.Declares.{Declared, Declares}
+use Rattle.vf_worth.specs.Declares.{Covers, Declared, Declares}
 use Rattle.vf_worth.specs.Given.{FixpointsKeepSorts}
 use Rattle.vf_worth.specs.Worth.{Sets, Tests, passing}
 use Rattle.vf_keeping.specs.Closed.{Each}
@@ -35,6 +36,10 @@ pub record IsWritten (s : Scope) (paths : List (List ℕ)) (items : List Item) (
 abbrev pub EachIsWritten : Scope → List (List ℕ) → List Item → Type 0
 EachIsWritten s paths items = (c : Identity) (x : declaration.Fixpoint) → Declares (declared_at s paths) c (ghosts.Fixpoint x) → IsWritten s paths items c x
 
+-- where an item is a fixpoint, all that is declared covers what is so up to its name
+abbrev pub EachIsCovered : Scope → List (List ℕ) → List Item → Type 0
+EachIsCovered s paths items = (item : Item) (w : Written) → Contains items item → written_in item ≡ Some w → Covers (declared_at s paths) (declared_at (up_to w.name s) paths)
+
 -- the bodies of definitions have a case for each constructor
 abbrev pub HaveEachCase : Declared → List definitions.Fixpoint → Type 0
 HaveEachCase d fs = (k : definitions.Fixpoint) → Contains fs k → (x : declaration.Fixpoint) → Declares d k.identity (ghosts.Fixpoint x) → HasEachCase d x.arguments k.body
@@ -47,7 +52,7 @@ GoDown r fs = (k : definitions.Fixpoint) → Contains fs k → BodyGoesDown r k.
 abbrev pub UnitKeepsIn : Sets → Type 0
 UnitKeepsIn sets =
     (s : Scope) (paths : List (List ℕ)) (items : List Item) (fs : List definitions.Fixpoint) (i : Interpretation) (r : Ranks)
-    → HaveDefinitions s paths items fs → MeetsDefinitions i fs → IsWellDeclared (declared_at s paths) → EachIsWritten s paths items → HaveEachCase (declared_at s paths) fs → GoDown r fs → GivesKinds (declared_at s paths) i sets
+    → HaveDefinitions s paths items fs → MeetsDefinitions i fs → IsWellDeclared (declared_at s paths) → EachIsWritten s paths items → EachIsCovered s paths items → HaveEachCase (declared_at s paths) fs → GoDown r fs → GivesKinds (declared_at s paths) i sets
     → FixpointsKeepSorts (declared_at s paths) i sets
 
 -- so it is for all sets that are told by tests

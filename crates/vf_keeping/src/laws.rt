@@ -4,6 +4,7 @@ ghost use Rattle.vf_keeping.specs.Applied.{DefinedKeepSorts, DefinitionsAreKinde
 ghost use Rattle.vf_keeping.specs.Bodies.{BodiesGiveSorts};
 ghost use Rattle.vf_keeping.specs.Closed.{PlacedAlike};
 ghost use Rattle.vf_keeping.specs.Expressions.{ValuesFollowSorting};
+ghost use Rattle.vf_keeping.specs.Fronts.{FrontsAreCovered, LaterPredicatesStay};
 ghost use Rattle.vf_keeping.specs.Numbers.{NumbersKeepSorts, NumbersKeepValues, NumbersMeetDefinitions};
 ghost use Rattle.vf_keeping.specs.Recursion.{BodiesKeepSorts};
 ghost use Rattle.vf_keeping.specs.Resolved.{EquatingResolves, PassingResolves, PassingSettles};
@@ -29,6 +30,18 @@ pub fn passing_resolves()
 /// Behind such an expression the sorts that are settled in the end agree with what is known.
 pub fn passing_settles()
     ensures { PassingSettles }
+{}
+
+/// All that is declared covers what is so up to a name, where the predicates that may be built stay such: a name that is
+/// found in a front of the names is found at the same place among all.
+pub fn fronts_are_covered()
+    ensures { FrontsAreCovered }
+{}
+
+/// The predicates that may be built up to a name stay such, where those that stand later than it, and are declared, are
+/// declared over the sorts and in the files that were told of them.
+pub fn later_predicates_stay()
+    ensures { LaterPredicatesStay }
 {}
 
 /// At values of its arguments' sorts a fixpoint that has the values of its body has, as its kind has it, a value of its
