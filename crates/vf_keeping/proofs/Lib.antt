@@ -13,3 +13,4 @@ pub mod Numbers
 pub mod Applied
 pub mod Defined
 pub mod Expressions
+mod Example

@@ -7,3 +7,4 @@ pub mod Units
 pub mod Numbers
 pub mod Applied
 pub mod Expressions
+pub mod Example

@@ -3,6 +3,7 @@
 ghost use Rattle.vf_keeping.specs.Applied.{DefinedKeepSorts, DefinitionsAreKinded, ReadingsAreKinded};
 ghost use Rattle.vf_keeping.specs.Bodies.{BodiesGiveSorts};
 ghost use Rattle.vf_keeping.specs.Closed.{PlacedAlike};
+ghost use Rattle.vf_keeping.specs.Example.{ListsAreDefined};
 ghost use Rattle.vf_keeping.specs.Expressions.{ValuesFollowSorting};
 ghost use Rattle.vf_keeping.specs.Fronts.{FrontsAreCovered, LaterPredicatesStay};
 ghost use Rattle.vf_keeping.specs.Numbers.{NumbersKeepSorts, NumbersKeepValues, NumbersMeetDefinitions};
@@ -101,4 +102,10 @@ pub fn defined_keep_sorts()
 /// one, has a value of that sort as it is known in the end.
 pub fn values_follow_sorting()
     ensures { ValuesFollowSorting }
+{}
+
+/// What is asked of units can be met together: by one of lists with two fixpoints, of which one switches and applies
+/// itself, and the other applies the first; a predicate over lists stands behind both.
+pub fn lists_are_defined()
+    ensures { ListsAreDefined }
 {}
