@@ -1,0 +1,4 @@
+pub mod Ranks
+pub mod Laws
+pub mod Example
+pub mod Marked
