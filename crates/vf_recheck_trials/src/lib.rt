@@ -4,6 +4,8 @@
 #[cfg(test)]
 mod bounds;
 #[cfg(test)]
+mod chains;
+#[cfg(test)]
 mod equalities;
 #[cfg(test)]
 mod laws;
