@@ -1,5 +1,5 @@
 -- The bodies of fixpoints of an accepted unit are accepted where more is declared.
-use Rattle.std.proofs.Common.{◌≡◌, refl, sym, subst, ◌∙◌, ap, ℕ, ◌+◌, ◌≤◌, List, [], ◌∷◌, length, length-append, Option, Some, None, Result, Ok, Err, arith, map}
+use Rattle.std.proofs.Common.{◌≡◌, refl, sym, subst, ◌∙◌, ap, ℕ, ◌+◌, ◌≤◌, List, [], ◌∷◌, length, length-append, Option, Some, None, Result, Ok, Err, arith}
 use Rattle.vf_base.specs.declared.refusal.Refusal.{Refusal}
 use Rattle.vf_declared.specs.declared.declaration.Fixpoint.{Fixpoint}
 use Rattle.vf_declared.specs.declared.declaration.GhostDeclaration.TheVariants as ghosts
@@ -21,21 +21,15 @@ use Rattle.vf_heads.specs.Heads.{fixpoint_behind}
 use Rattle.vf_walk.specs.Items.{WalksItem, WalksItems}
 use Rattle.vf_equations.specs.Fixpoints.{EquationsCome, FixpointComes}
 use Rattle.vf_annotations.specs.Forms.{FormComes, meanings}
-use Rattle.vf_resolve.specs.declared.files.Files.{Files}
 use Rattle.vf_resolve.specs.Beginning.{beginning}
-use Rattle.vf_resolve.specs.Units.{ItemsCome}
 use Rattle.vf_determined.proofs.Equating.{equations_come}
 use Rattle.vf_defining.specs.Symbols.{without_locals}
-use Rattle.vf_defining.specs.Units.{AnyIsRefused, IsNumbered, Written, within_fixpoint, written_form, written_in}
+use Rattle.vf_defining.specs.Units.{AnyIsRefused, Written, within_fixpoint, written_form, written_in}
 use Rattle.vf_defining.specs.Units as units
+use Rattle.vf_defining.specs.UpTo.{up_to}
 use Rattle.vf_hidden.proofs.Coming.{Leads, none_some, ok_comes, only_leads, then_leads}
-use Rattle.vf_definable.specs.Behind.{IsNotBehind, NoneIsBehind}
 use Rattle.vf_definable.specs.Files.{SeesThrough}
-use Rattle.vf_definable.specs.Laws.{AcceptedBodiesStayAccepted, AcceptedUnitsAreDefined, EquationsArePreserved, SortsArePreserved}
-use Rattle.vf_definable.specs.Naming.{EachNameOfBody}
-use Rattle.vf_definable.specs.UpTo.{AnyIsRefusedThere, IsRefusedThere, up_to}
-use Rattle.vf_definable.specs.UpTo as refusals
-use Rattle.vf_definable.proofs.Behind.{IsBetween, is_itself, longer_datatypes, longer_preserves, own_ghost, own_locals, shorter_datatypes, shorter_preserves}
+use Rattle.vf_definable.specs.Laws.{AcceptedUnitsAreDefined, EquationsArePreserved, SortsArePreserved}
 use Rattle.vf_definable.proofs.Equations.{equations_kept}
 use Rattle.vf_definable.proofs.Extending.{AreOf, Grows, are_both, are_wider, grows_behind, grows_both, grows_kept, grows_wider, keeps_same, sees_kept}
 use Rattle.vf_definable.proofs.Ghosts.{IsHead, equations_clear, fixpoint_head}
@@ -43,6 +37,7 @@ use Rattle.vf_definable.proofs.Items.{Leaves, item_leaves}
 use Rattle.vf_definable.proofs.Naming.{any_of_body}
 use Rattle.vf_definable.proofs.Seeing.{meaning_with}
 use Rattle.vf_definable.proofs.Sorting.{sort_kept}
+use Rattle.vf_definable.proofs.UpTo.{IsBetween, is_itself, own_ghost, shorter_datatypes, shorter_preserves}
 
 pub sorts_are_preserved : SortsArePreserved
 sorts_are_preserved ns s t c k k' e u h n a = sort_kept h n a
@@ -86,10 +81,9 @@ not_both e f = apart (sym e ∙ f)
 abbrev Refused : List GhostParameter → FixpointBody → Refusal → Scope → ℕ → Fixpoint → Type 0
 Refused gs c r t k f = EquationsCome (count (within_fixpoint t gs f.arguments)) k (within_fixpoint t gs f.arguments) c (Err r)
 
--- it is refused neither with the names that are declared up to it nor with all names, as long as none in it is declared behind it
-record StaysAt (n : Name) (gs : List GhostParameter) (c : FixpointBody) (t : Scope) (k : ℕ) (f : Fixpoint) : Type 0 where
-  shorter : (r : Refusal) → Refused gs c r (up_to n t) k f → ⊥
-  longer : (r : Refusal) → EachNameOfBody (IsNotBehind t n) (map (λ (g : GhostParameter). g.name.text) gs) c → Refused gs c r t k f → ⊥
+-- it is not refused with the names that are declared up to it
+abbrev StaysAt : Name → List GhostParameter → FixpointBody → Scope → ℕ → Fixpoint → Type 0
+StaysAt n gs c t k f = (r : Refusal) → Refused gs c r (up_to n t) k f → ⊥
 
 body_stays : (n : Name) (gs : List GhostParameter) (c : FixpointBody) (s u v t : Scope) (m : ℕ) → IsBetween s → IsHead n gs s u → EquationsCome (count s) (length s.ghosts) u c (Ok v) → Grows m u t → (k : ℕ) (f : Fixpoint) → declaration_of t n.text n.place.file ≡ Some (names.Ghost k) → ghost_of t k ≡ Some (ghosts.Fixpoint f) → StaysAt n gs c t k f
 body_stays n gs c s u v t m b h e g k f i j =
@@ -99,16 +93,10 @@ body_stays n gs c s u v t m b h e g k f i j =
     up : Scope
     up = within_fixpoint (up_to n t) gs h.fixpoint.arguments
 
-    all : Scope
-    all = within_fixpoint t gs h.fixpoint.arguments
-
     it : StaysAt n gs c t (length s.ghosts) h.fixpoint
-    it = record {
-      shorter = λ r a. not_both (equations_come (equations_kept (shorter_preserves n gs s u t m b h g) (shorter_datatypes n gs s u t m b h g) (count s) (count up) (length s.ghosts) h.fixpoint (own_ghost n gs s u t m b h g) c v (any_of_body u.locals.names c) e).1) (equations_come a);
-      longer = λ r y a. not_both (equations_come (equations_kept (longer_preserves n gs s u t m b h g) (longer_datatypes n gs s u t m b h g) (count s) (count all) (length s.ghosts) h.fixpoint (own_ghost n gs s u t m b h g) c v (subst (λ ns. EachNameOfBody (IsNotBehind t n) ns c) (sym (own_locals n gs s u t m b h g)) y) e).1) (equations_come a);
-    }
+    it r a = not_both (equations_come (equations_kept (shorter_preserves n gs s u t m b h g) (shorter_datatypes n gs s u t m b h g) (count s) (count up) (length s.ghosts) h.fixpoint (own_ghost n gs s u t m b h g) c v (any_of_body u.locals.names c) e).1) (equations_come a)
 
--- what a fixpoint leads to: its body is not refused behind the whole unit
+-- what a fixpoint leads to: its body is not refused behind the whole unit with the names that are declared up to it
 abbrev StaysAccepted : Name → List GhostParameter → FixpointBody → Scope → Type 0
 StaysAccepted n gs c v = (t : Scope) → GrowsTo v t → (k : ℕ) (f : Fixpoint) → declaration_of t n.text n.place.file ≡ Some (names.Ghost k) → ghost_of t k ≡ Some (ghosts.Fixpoint f) → StaysAt n gs c t k f
 
@@ -147,34 +135,25 @@ item_stays d (items.Prototype g k c) s b v h = no_body v
 item_stays d (items.Function g k c y) s b v h = no_body v
 item_stays d (items.Ghost x) s b v h = form_stays d x.form s b v h
 
--- no body is refused with the names that are declared up to its fixpoint, nor with all names, as long as none in it is declared behind its fixpoint
-record NoneIsRefused (xs : List Item) (t : Scope) : Type 0 where
-  shorter : (r : Refusal) → AnyIsRefusedThere t xs r → ⊥
-  longer : NoneIsBehind t xs → (r : Refusal) → AnyIsRefused (without_locals t) xs r → ⊥
+-- no body is refused with the names that are declared up to its fixpoint
+abbrev NoneIsRefused : List Item → Scope → Type 0
+NoneIsRefused xs t = (r : Refusal) → AnyIsRefused (without_locals t) xs r → ⊥
 
 -- an item leaves something, and its body stays accepted
 record LeavesBody (x : Item) (s v : Scope) : Type 0 where
   leaves : Leaves s v
   stays : BodyStays v (written_in x)
 
-shorter_refused : {x : Item} {xs : List Item} {s v t : Scope} → LeavesBody x s v → GrowsTo v t → NoneIsRefused xs t → (r : Refusal) → AnyIsRefusedThere t (x ∷ xs) r → ⊥
-shorter_refused {t = t} h g k r (refusals.this_item (refusals.its_body {w = w} {n = n} {f = f} e i a)) = (h.stays w e t g n f i.means i.is).shorter r a
-shorter_refused h g k r (refusals.later_item a) = k.shorter r a
-
-longer_refused : {x : Item} {xs : List Item} {s v t : Scope} → LeavesBody x s v → GrowsTo v t → NoneIsRefused xs t → NoneIsBehind t (x ∷ xs) → (r : Refusal) → AnyIsRefused (without_locals t) (x ∷ xs) r → ⊥
-longer_refused {t = t} h g k y r (units.this_item (units.its_body {w = w} {n = n} {f = f} e i a)) = (h.stays w e t g n f (sym (meaning_with t no_locals w.name.text w.name.place.file) ∙ i.means) i.is).longer r (y.0 w e) a
-longer_refused h g k y r (units.later_item a) = k.longer y.1 r a
-
-none_there : {t : Scope} {r : Refusal} {xs : List Item} → AnyIsRefusedThere t xs r → xs ≡ [] → ⊥
-none_there (refusals.this_item a) e = absurd cc
-none_there (refusals.later_item a) e = absurd cc
+item_refused : {x : Item} {xs : List Item} {s v t : Scope} → LeavesBody x s v → GrowsTo v t → NoneIsRefused xs t → (r : Refusal) → AnyIsRefused (without_locals t) (x ∷ xs) r → ⊥
+item_refused {t = t} h g k r (units.this_item (units.its_body {w = w} {n = n} {f = f} e i a)) = h.stays w e t g n f (sym (meaning_with t no_locals w.name.text w.name.place.file) ∙ i.means) i.is r a
+item_refused h g k r (units.later_item a) = k r a
 
 none_at_all : {t : Scope} {r : Refusal} {xs : List Item} → AnyIsRefused t xs r → xs ≡ [] → ⊥
 none_at_all (units.this_item a) e = absurd cc
 none_at_all (units.later_item a) e = absurd cc
 
 none_refused : (d : Stated) (xs : List Item) (s : Scope) → SeesThrough s → IsBetween s → Leads (NoneIsRefused xs) (WalksItems (meanings d) xs s)
-none_refused d [] s o b = λ t h. record { shorter = λ r a. none_there a refl; longer = λ y r a. none_at_all a refl }
+none_refused d [] s o b = λ t h r a. none_at_all a refl
 none_refused d (x ∷ xs) s o b =
     then_leads (LeavesBody x s) (NoneIsRefused (x ∷ xs)) (λ v h. record { leaves = item_leaves d x s o b.locals v h; stays = item_stays d x s b v h })
     (λ v l t w.
@@ -182,13 +161,7 @@ none_refused d (x ∷ xs) s o b =
     let c = between_next b l.leaves in
     let g = items_grow d xs v p c t w in
     let k = none_refused d xs v p c t w in
-    record { shorter = λ r a. shorter_refused l g k r a; longer = λ y r a. longer_refused l g k y r a })
-
-refused_none : (f : Files) (xs : List Item) (s : Scope) → SeesThrough (beginning f xs) → ItemsCome xs (beginning f xs) (Ok s) → NoneIsRefused xs s
-refused_none f xs s v c = none_refused c.stated xs (beginning f xs) v (record { locals = refl; beside = refl; whole = tt }) s c.walks
+    λ r a. item_refused l g k r a)
 
 pub accepted_units_are_defined : AcceptedUnitsAreDefined
-accepted_units_are_defined f xs s r v c y a = (refused_none f xs s v c).longer y r a
-
-pub accepted_bodies_stay_accepted : AcceptedBodiesStayAccepted
-accepted_bodies_stay_accepted f xs s r v c a = (refused_none f xs s v c).shorter r a
+accepted_units_are_defined f xs s r v c a = none_refused c.stated xs (beginning f xs) v (record { locals = refl; beside = refl; whole = tt }) s c.walks r a

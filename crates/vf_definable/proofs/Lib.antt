@@ -13,7 +13,7 @@ pub mod Parameters
 pub mod Ghosts
 pub mod Lemmas
 pub mod Items
-pub mod Behind
+pub mod UpTo
 pub mod Laws
 pub mod Expanded
 pub mod Example

@@ -1,5 +1,5 @@
 -- Lists that go on behind others.
-use Rattle.std.proofs.Common.{◌≡◌, refl, ap, ℕ, zero, suc, ◌+◌, ◌≤◌, Bool, true, false, ◌||◌, cond, List, [], ◌∷◌, ◌++◌, length, take, Option, Some, None, slice_get, arith}
+use Rattle.std.proofs.Common.{◌≡◌, refl, ap, ℕ, zero, suc, ◌+◌, ◌≤◌, Bool, true, false, ◌||◌, cond, List, [], ◌∷◌, ◌++◌, length, take, Option, Some, slice_get, arith}
 use Rattle.std.specs.List.{position_from}
 use Rattle.std.specs.Str.{bytes_eq}
 use Rattle.vf_names.specs.Names.{number_of}
@@ -44,18 +44,6 @@ position_past t i (x ∷ xs) n e = by_test (t x) e (position_past t (i + 1) xs n
 -- a name keeps its number where more names come behind
 pub number_front : (xs ys : List (List ℕ)) (x : List ℕ) (n : ℕ) → number_of xs x ≡ Some n → number_of (xs ++ ys) x ≡ Some n
 number_front xs ys x n e = found_more (bytes_eq x) 0 xs ys n e
-
-missed_past : (t : List ℕ → Bool) (i : ℕ) (xs ys : List (List ℕ)) (n : ℕ) → position_from t i xs ≡ None → position_from t i (xs ++ ys) ≡ Some n → i + length xs ≤ n
-missed_past t i [] ys n e f = let h = position_past t i ys n f in omega (arith, h)
-missed_past t i (x ∷ xs) ys n e f = by_test (t x) e f (missed_past t (i + 1) xs ys n)
-  where
-    by_test : (b : Bool) → cond b (Some i) (position_from t (i + 1) xs) ≡ None → cond b (Some i) (position_from t (i + 1) (xs ++ ys)) ≡ Some n → (position_from t (i + 1) xs ≡ None → position_from t (i + 1) (xs ++ ys) ≡ Some n → i + 1 + length xs ≤ n) → i + suc (length xs) ≤ n
-    by_test true e f h = absurd cc
-    by_test false e f h = let k = h e f in omega (arith, k)
-
--- a name that is new among names has a number behind theirs, if it has one
-pub number_past : (xs ys : List (List ℕ)) (x : List ℕ) (n : ℕ) → number_of xs x ≡ None → number_of (xs ++ ys) x ≡ Some n → length xs ≤ n
-number_past xs ys x n e f = let h = missed_past (bytes_eq x) 0 xs ys n e f in omega (arith, h)
 
 position_below : (t : List ℕ → Bool) (i : ℕ) (xs : List (List ℕ)) (n : ℕ) → position_from t i xs ≡ Some n → suc n ≤ i + length xs
 position_below t i [] n e = absurd cc

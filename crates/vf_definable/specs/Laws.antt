@@ -19,11 +19,9 @@ use Rattle.vf_resolve.specs.Beginning.{beginning}
 use Rattle.vf_resolve.specs.Units.{ItemsCome}
 use Rattle.vf_defining.specs.Symbols.{without_locals}
 use Rattle.vf_defining.specs.Units.{AnyIsRefused}
-use Rattle.vf_definable.specs.Behind.{NoneIsBehind}
 use Rattle.vf_definable.specs.Files.{SeesThrough}
 use Rattle.vf_definable.specs.Naming.{EachName, EachNameOfBody}
 use Rattle.vf_definable.specs.Preserved.{Preserves, PreservesDatatypes}
-use Rattle.vf_definable.specs.UpTo.{AnyIsRefusedThere}
 
 -- a name is among some
 abbrev pub IsAmong : List (List ℕ) → List ℕ → Type 0
@@ -37,10 +35,6 @@ SortsArePreserved = (ns : List (List ℕ)) (s t : Scope) (c : Context) (k k' : K
 abbrev pub EquationsArePreserved : Type 0
 EquationsArePreserved = (ns : List (List ℕ)) (s t u : Scope) (l m n : ℕ) (f : Fixpoint) (b : FixpointBody) → Preserves (IsAmong ns) s t → PreservesDatatypes s t → ghost_of s n ≡ Some (ghosts.Fixpoint f) → EachNameOfBody (IsAmong ns) s.locals.names b → EquationsCome l n s b (Ok u) → (v : Scope) × EquationsCome m n t b (Ok v)
 
--- where files see through each other, the body of no fixpoint of an accepted unit is refused behind the whole unit, as long as no name in it is declared behind the fixpoint, but for those of locals as values
+-- where files see through each other, no body of a fixpoint of an accepted unit is refused where it is defined
 abbrev pub AcceptedUnitsAreDefined : Type 0
-AcceptedUnitsAreDefined = (f : Files) (xs : List Item) (s : Scope) (r : Refusal) → SeesThrough (beginning f xs) → ItemsCome xs (beginning f xs) (Ok s) → NoneIsBehind s xs → AnyIsRefused (without_locals s) xs r → ⊥
-
--- and it is never refused there where no names count that are declared behind the fixpoint
-abbrev pub AcceptedBodiesStayAccepted : Type 0
-AcceptedBodiesStayAccepted = (f : Files) (xs : List Item) (s : Scope) (r : Refusal) → SeesThrough (beginning f xs) → ItemsCome xs (beginning f xs) (Ok s) → AnyIsRefusedThere s xs r → ⊥
+AcceptedUnitsAreDefined = (f : Files) (xs : List Item) (s : Scope) (r : Refusal) → SeesThrough (beginning f xs) → ItemsCome xs (beginning f xs) (Ok s) → AnyIsRefused (without_locals s) xs r → ⊥

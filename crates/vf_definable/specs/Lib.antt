@@ -3,6 +3,4 @@ pub mod Preserved
 pub mod Files
 pub mod Expanded
 pub mod Example
-pub mod UpTo
-pub mod Behind
 pub mod Laws

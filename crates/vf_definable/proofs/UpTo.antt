@@ -1,4 +1,4 @@
--- What is declared in the body of a fixpoint is so behind the whole unit, but for names that are declared behind the fixpoint.
+-- What is declared in the body of a fixpoint is so behind the whole unit, where the name of the fixpoint is the last of file level.
 use Rattle.std.proofs.Common.{◌≡◌, refl, sym, subst, ◌∙◌, ap, ℕ, zero, suc, ◌+◌, ◌≤◌, Bool, true, false, if◌then◌else◌, List, [], ◌∷◌, ◌++◌, length, length-append, take, map, slice_get, is_some, Option, Some, None, arith}
 use Rattle.std.proofs.lemmas.List.{length-map}
 use Rattle.vf_names.specs.Names.{number_of}
@@ -15,20 +15,19 @@ use Rattle.vf_declared.specs.declared.locals.Locals.{Locals}
 use Rattle.vf_declared.specs.declared.scope.Scope.{Scope}
 use Rattle.vf_declared.specs.Beginning.{no_locals}
 use Rattle.vf_declared.specs.Changes.{IsAligned}
-use Rattle.vf_declared.specs.Scopes.{at_index, at_name, declaration_of, declared_in, ghost_of, is_declared, local_of}
+use Rattle.vf_declared.specs.Scopes.{at_index, at_name, declaration_of, declared_in, ghost_of, local_of}
 use Rattle.vf_syntax.specs.declared.item.GhostParameter.{GhostParameter}
 use Rattle.vf_syntax.specs.declared.written.Name.{Name}
 use Rattle.vf_sorting.specs.Schemes.{sort_of_local}
 use Rattle.vf_binding.specs.Bound.{bound_local}
 use Rattle.vf_asserting.specs.Cases.{datatype_in}
 use Rattle.vf_defining.specs.Units.{within_fixpoint}
+use Rattle.vf_defining.specs.UpTo.{through, up_to}
 use Rattle.vf_hidden.proofs.Coming.{none_some}
-use Rattle.vf_definable.specs.Behind.{IsNotBehind}
 use Rattle.vf_definable.specs.Preserved.{Preserves, PreservesDatatypes}
-use Rattle.vf_definable.specs.UpTo.{through, up_to}
 use Rattle.vf_definable.proofs.Extending.{AreOf, Core, Front, Grows, IsBeside, IsSame, are_both, core, is_of, no_more, one_more}
 use Rattle.vf_definable.proofs.Ghosts.{IsHead}
-use Rattle.vf_definable.proofs.Lists.{get_below, get_front, number_below, number_front, number_past, one_beside, take_front}
+use Rattle.vf_definable.proofs.Lists.{get_below, get_front, number_front, one_beside, take_front}
 use Rattle.vf_definable.proofs.Naming.{Any}
 use Rattle.vf_definable.proofs.Parameters.{local_known}
 use Rattle.vf_definable.proofs.Seeing.{bare, declared_same, predicates_same}
@@ -50,11 +49,6 @@ front_means s (one_more h hs) from (suc j) = front_means s hs from j
 front_at : (s : Scope) {ds es : List Declaration} → Front s ds es → (from : ℕ) (o : Option ℕ) → declared_in s from (at_index (take (length ds) es) o) ≡ declared_in s from (at_index ds o)
 front_at s h from None = refl
 front_at s h from (Some j) = front_means s h from j
-
-front_below : (s : Scope) {ds es : List Declaration} → Front s ds es → (from j : ℕ) → suc j ≤ length ds → declared_in s from (slice_get es j) ≡ declared_in s from (slice_get ds j)
-front_below s no_more from j l = absurd (omega (arith, l))
-front_below s (one_more h hs) from zero l = λ i. if h.files from i then Some (h.meaning i) else None
-front_below s (one_more h hs) from (suc j) l = front_below s hs from j (omega (arith, l))
 
 -- the declaration at the place of one in front
 record IsThere (s : Scope) (d : Declaration) (es : List Declaration) (j : ℕ) : Type 0 where
@@ -100,12 +94,9 @@ module _ (n : Name) (gs : List GhostParameter) (s u t : Scope) (m : ℕ) (b : Is
   beside : length u.names ≡ length u.declarations
   beside = ap length own_names ∙ (one_beside s.names n.text s.declarations own_declaration b.beside ∙ ap length (sym own_declarations))
 
-  -- the scope of its body with the names that are declared up to it, and with all names
+  -- the scope of its body with the names that are declared up to it
   abbrev shorter : Scope
   shorter = within_fixpoint (up_to n t) gs h.fixpoint.arguments
-
-  abbrev longer : Scope
-  longer = within_fixpoint t gs h.fixpoint.arguments
 
   frame_same : bare t ≡ bare u
   frame_same = g.extends.frame
@@ -120,53 +111,13 @@ module _ (n : Name) (gs : List GhostParameter) (s u t : Scope) (m : ℕ) (b : Is
       ∙ (front_at (bare u) g.extends.declarations from (number_of u.names x)
       ∙ declared_same u (bare u) from (at_name u.names u.declarations x) refl))))
 
-  numbered_there : (x : List ℕ) (j : ℕ) → number_of u.names x ≡ Some j → number_of t.names x ≡ Some j
-  numbered_there x j e = ap (λ ns. number_of ns x) g.extends.names ∙ number_front u.names g.extends.more_names x j e
-
-  -- names among all names
-  longer_there : (x : List ℕ) (from j : ℕ) → number_of u.names x ≡ Some j → declaration_of longer x from ≡ declaration_of u x from
-  longer_there x from j e =
-      declared_same u longer from (at_name t.names t.declarations x) frame_same
-      ∙ (ap (λ o. declared_in u from (at_index t.declarations o)) (numbered_there x j e)
-      ∙ (sym (declared_same u (bare u) from (slice_get t.declarations j) refl)
-      ∙ (front_below (bare u) g.extends.declarations from j (subst (λ k. suc j ≤ k) beside (number_below u.names x j e))
-      ∙ (declared_same u (bare u) from (slice_get u.declarations j) refl
-      ∙ sym (ap (λ o. declared_in u from (at_index u.declarations o)) e)))))
-
-  unnumbered : (x : List ℕ) → IsNotBehind t n x → number_of u.names x ≡ None → (o : Option ℕ) → number_of t.names x ≡ o → o ≡ None
-  unnumbered x l e None f = refl
-  unnumbered x l e (Some j) f =
-      let past = number_past u.names g.extends.more_names x j e (sym (ap (λ ns. number_of ns x) g.extends.names) ∙ f) in
-      let before = l j (length s.names) f own_number in
-      absurd (omega (arith, past, before, as_many))
-
-  longer_not_there : (x : List ℕ) (from : ℕ) → IsNotBehind t n x → number_of u.names x ≡ None → declaration_of longer x from ≡ declaration_of u x from
-  longer_not_there x from l e = ap (λ o. declared_in longer from (at_index t.declarations o)) (unnumbered x l e (number_of t.names x) refl) ∙ sym (ap (λ o. declared_in u from (at_index u.declarations o)) e)
-
-  longer_means_by : (o : Option ℕ) (x : List ℕ) (from : ℕ) → number_of u.names x ≡ o → IsNotBehind t n x → declaration_of longer x from ≡ declaration_of u x from
-  longer_means_by None x from e l = longer_not_there x from l e
-  longer_means_by (Some j) x from e l = longer_there x from j e
-
-  longer_means : (x : List ℕ) (from : ℕ) → IsNotBehind t n x → declaration_of longer x from ≡ declaration_of u x from
-  longer_means x from l = longer_means_by (number_of u.names x) x from refl l
-
-  longer_declares_by : (o : Option ℕ) (x : List ℕ) → number_of u.names x ≡ o → IsNotBehind t n x → is_declared t x ≡ is_declared u x
-  longer_declares_by None x e l = ap is_some (unnumbered x l e (number_of t.names x) refl) ∙ sym (ap is_some e)
-  longer_declares_by (Some j) x e l = ap is_some (numbered_there x j e) ∙ sym (ap is_some e)
-
-  -- what means something in its body means it behind the whole unit
-  still_means : (o : Option ℕ) (x : List ℕ) (from : ℕ) (m : Meaning) → number_of u.names x ≡ o → declaration_of u x from ≡ Some m → declaration_of longer x from ≡ Some m
-  still_means None x from m e f = absurd (none_some (sym (ap (λ o. declared_in u from (at_index u.declarations o)) e) ∙ f))
-  still_means (Some j) x from m e f = longer_there x from j e ∙ f
-
   locals_same : shorter.locals ≡ u.locals
   locals_same =
       let names : map (λ (g : GhostParameter). g.name.text) gs ≡ u.locals.names = sym (h.locals ∙ ap (λ (l : Locals). l.names ++ map (λ (g : GhostParameter). g.name.text) gs) b.locals) in
       let sorts : map bound_local h.fixpoint.arguments ≡ u.locals.meanings = sym (h.sorts ∙ ap (λ (l : Locals). l.meanings ++ map bound_local h.fixpoint.arguments) b.locals) in
       λ i. record { names = names i; meanings = sorts i }
 
-  -- its locals are its parameters
-  pub own_locals : u.locals.names ≡ map (λ (g : GhostParameter). g.name.text) gs
+  own_locals : u.locals.names ≡ map (λ (g : GhostParameter). g.name.text) gs
   own_locals = h.locals ∙ ap (λ (l : Locals). l.names ++ map (λ (g : GhostParameter). g.name.text) gs) b.locals
 
   aligned : IsAligned u.locals
@@ -209,19 +160,6 @@ module _ (n : Name) (gs : List GhostParameter) (s u t : Scope) (m : ℕ) (b : Is
     constructors = constructors_kept;
   }
 
-  -- and with all names, but for those that are declared behind it
-  pub longer_preserves : Preserves (IsNotBehind t n) u longer
-  longer_preserves = record {
-    locals = locals_same;
-    aligned = aligned;
-    has_stdlib = stdlib_same;
-    names = longer_means;
-    predicates = λ x from a. predicates_same u longer x from frame_same (longer_declares_by (number_of u.names x) x refl a);
-    function_types = λ x from k e. still_means (number_of u.names x) x from (meanings.FunctionType k) refl e;
-    annotations = ghosts_kept;
-    constructors = constructors_kept;
-  }
-
   of_local : (o : Option ℕ) (l : Local) (d : ℕ) → at_index (map bound_local h.fixpoint.arguments) o ≡ Some l → datatype_in (sort_of_local l) ≡ Some d → slice_get t.datatypes d ≡ slice_get u.datatypes d
   of_local None l d e f = absurd (none_some e)
   of_local (Some j) l d e f = let r = local_known s.ghosts h.fixpoint.arguments j l h.known e d f in datatype_same d (is_of (length s.datatypes) s.ghosts r.0 (ghosts.Datatype d) b.whole r.1)
@@ -231,9 +169,6 @@ module _ (n : Name) (gs : List GhostParameter) (s u t : Scope) (m : ℕ) (b : Is
 
   pub shorter_datatypes : PreservesDatatypes u shorter
   shorter_datatypes = record { same = local_datatypes }
-
-  pub longer_datatypes : PreservesDatatypes u longer
-  longer_datatypes = record { same = local_datatypes }
 
   -- its number and its declaration are the same
   pub own_ghost : ghost_of u (length s.ghosts) ≡ Some (ghosts.Fixpoint h.fixpoint)
