@@ -162,3 +162,57 @@ fn fixpoints(rt: HostRuntime) -> Result<(), Fail> {
     assert!(rt; env.definitions.as_slice().is_empty());
     Ok(())
 }
+
+/// A unit in which a function behind a fixpoint is `is_T` for a function type that stands in front of it.
+const LATER_TEST: &str = "typedef int work(int n);
+//@ requires true;
+//@ ensures true;
+//@ fixpoint any tested() { return is_work(0); }
+int is_work(int n)
+//@ requires true;
+//@ ensures true;
+{ return n; }
+int main()
+//@ requires true;
+//@ ensures result == 0;
+{ return 0; }
+";
+
+/// A unit in which a function behind a fixpoint has the name of a case's argument.
+const LATER_ARGUMENT: &str = "/*@
+inductive ilist = nil | cons(int, ilist);
+fixpoint int length(ilist xs) { switch (xs) { case nil: return 0; case cons(h, t): return 1 + length(t); } }
+fixpoint int second(ilist xs, int h) { return length(xs) + h; }
+@*/
+int h(int n)
+//@ requires true;
+//@ ensures true;
+{ return n; }
+int main()
+//@ requires true;
+//@ ensures result == 0;
+{ return 0; }
+";
+
+/// Names that stand behind a fixpoint do not count in its body.
+#[test]
+fn later_names(rt: HostRuntime) -> Result<(), Fail> {
+    for (text, count, identity) in [
+        (LATER_TEST, 1, "one.c#tested"),
+        (LATER_ARGUMENT, 2, "one.c#length"),
+    ] {
+        let env = found(rt.alloc(), text)?;
+        let all = env.definitions.as_slice();
+        assert_eq!(rt; all.len(), count, "at {identity}");
+        match all.first() {
+            Some(fixpoint) => {
+                assert!(rt;
+                    fixpoint.identity.as_bytes() == identity.as_bytes(),
+                    "at {identity}"
+                );
+            }
+            None => return Err(Fail::from("no definition")),
+        }
+    }
+    Ok(())
+}

@@ -58,8 +58,8 @@ impl Env {
 ///
 /// # Errors
 ///
-/// Refused where the body of a fixpoint is refused once all names of the unit count: in a unit that was accepted a name
-/// that is declared behind the fixpoint may do that.
+/// Refused where the body of a fixpoint is refused with the names of file level that were declared up to it: in a unit
+/// that was accepted, and whose files see through each other, no body is.
 #[tactic(auto, using(crate::proofs::Describing::refused, crate::proofs::Describing::memory, crate::proofs::Describing::described))]
 pub fn describe(
     alloc: Global,
