@@ -13,7 +13,7 @@ mod Numbers
 mod Foretold
 mod Tags
 mod Reaching
-mod Laws
+pub mod Laws
 mod UpTo
 mod Example
 mod Marked

@@ -1,0 +1,17 @@
+pub mod Keeps
+pub mod RealKept
+pub mod GhostKept
+pub mod StatementsKept
+pub mod GhostItemsKept
+pub mod UnitsKept
+pub mod Named
+pub mod Words
+pub mod Lexed
+pub mod Macros
+pub mod Lines
+pub mod Expanded
+pub mod Telling
+pub mod Unmarked
+pub mod Example
+pub mod Macro
+pub mod Accepted

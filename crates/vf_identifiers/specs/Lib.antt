@@ -1,0 +1,5 @@
+pub mod Names
+pub mod Laws
+pub mod Example
+pub mod Macro
+pub mod Accepted
