@@ -55,7 +55,7 @@ datatype_behind : {t : Scope} (d : Stated) (n : Name) (ns : List Name) (cs : Lis
 datatype_behind d n ns cs s b i =
     let first = adds_behind (new_adds b i.declares) in
     let second = constructors_come d (own s n i.parameters) cs (begun s n) first.beside i.constructors in
-    behind_both first (behind_both second (subst (IsBehind i.at) (sym i.is) (record { grows = datatype_more i.at _; beside = second.beside; kept = record { tags = refl; structures = refl; foreseen = record { unit = record { file = refl; headers = refl }; predicates = refl; predicate_files = refl } } })))
+    behind_both first (behind_both second (subst (IsBehind i.at) (sym i.is) (record { grows = datatype_more i.at _; beside = second.beside; kept = record { tags = refl; structures = refl; foreseen = record { unit = record { file = refl; headers = refl }; predicates = refl; predicate_files = refl; predicate_sorts = refl } } })))
 
 pub form_behind : (d : Stated) (x : GhostForm) (s t : Scope) → length s.names ≡ length s.declarations → FormComes d x s (Ok t) → IsBehind s t
 form_behind d (forms.Inductive n ns b cs) s t e h = datatype_behind d n ns cs s e (is_datatype d n ns cs s h.is)

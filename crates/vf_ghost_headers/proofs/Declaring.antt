@@ -73,7 +73,7 @@ new_adds {n} {g} {s} b d = record {
   names = λ y from. ap ghost_number (rest_name y from d.is) ∙ next_names s n g y from b d.fresh;
   grows = grows_both (next_grows s n g b d.fresh) (rest_grows d.is);
   beside = beside_rest d.is (one_longer s.names n.text s.declarations (record { meaning = meanings.Ghost (length s.ghosts); files = n.place.file ∷ [] }) b);
-  kept = tags_both {s = s} {t = with_ghost (with_next s n) g} (record { tags = refl; structures = refl; foreseen = record { unit = record { file = refl; headers = refl }; predicates = refl; predicate_files = refl } }) (rest_tags d.is);
+  kept = tags_both {s = s} {t = with_ghost (with_next s n) g} (record { tags = refl; structures = refl; foreseen = record { unit = record { file = refl; headers = refl }; predicates = refl; predicate_files = refl; predicate_sorts = refl } }) (rest_tags d.is);
 }
 
 -- what is declared by the new number
@@ -107,7 +107,7 @@ again_at s n k b i = subst (λ o. Adds n.text k n.place.file s (stands_too s n o
     datatypes = λ m x e. e;
   };
   beside = b ∙ sym (length_changed _ s.declarations i.index);
-  kept = record { tags = refl; structures = refl; foreseen = record { unit = record { file = refl; headers = refl }; predicates = refl; predicate_files = refl } };
+  kept = record { tags = refl; structures = refl; foreseen = record { unit = record { file = refl; headers = refl }; predicates = refl; predicate_files = refl; predicate_sorts = refl } };
 })
   where
     names : (y : List ℕ) (from : ℕ) → ghost_at (with_name_again s i.index n.place.file) y from ≡ option_or (ghost_at s y from) (also s from n.place.file y n.text k)

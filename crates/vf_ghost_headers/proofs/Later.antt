@@ -25,13 +25,14 @@ use Rattle.vf_ghost_headers.specs.Items.{files_of_names, IsDeclaredOutside, name
 use Rattle.vf_ghost_headers.specs.Later.{LaterPredicatesAgree, PredicatesAreForeseen, PredicatesStayForeseen, stands_anywhere}
 use Rattle.vf_ghost_headers.specs.Units.{HaveTheSameGhosts, inside, none, outside_first, outside_second}
 use Rattle.vf_ghost_headers.proofs.Behind.{form_behind, form_between}
+use Rattle.vf_ghost_headers.proofs.Growing.{Grows}
 use Rattle.vf_ghost_headers.proofs.Plain.{annotations_plain}
 use Rattle.vf_ghost_headers.proofs.Real.{definition_keeps, Keeps, prototype_keeps, struct_keeps, type_keeps, whole_keeps}
 use Rattle.vf_ghost_headers.proofs.Rest.{KeepsPredicates, predicates_both, predicates_itself}
 use Rattle.vf_ghost_headers.proofs.Two.{AreTwo, part_both, sees_both}
 
 -- ---- where predicates stand
-files_seen : (s : Scope) (from : ℕ) (files : List ℕ) → stands_in s from (any_files files) ≡ is_visible s from files
+pub files_seen : (s : Scope) (from : ℕ) (files : List ℕ) → stands_in s from (any_files files) ≡ is_visible s from files
 files_seen s from [] = refl
 files_seen s from (f ∷ files) = refl
 
@@ -94,23 +95,24 @@ predicates_are_foreseen header xs ys s t h k l r =
     }
 
 -- ---- behind items
--- what stands between items, and what is known of predicates
-record IsThen (s t : Scope) : Type 0 where
-  foreseen : KeepsPredicates s t
-  between : IsBetweenItems t
+-- what stands between items, what names mean, and what is known of predicates
+pub record IsThen (s t : Scope) : Type 0 where
+  pub foreseen : KeepsPredicates s t
+  pub grows : Grows s t
+  pub between : IsBetweenItems t
 
 keeps_then : {s t : Scope} → Keeps s t → IsThen s t
-keeps_then k = record { foreseen = k.foreseen; between = k.between }
+keeps_then k = record { foreseen = k.foreseen; grows = k.grows; between = k.between }
 
-item_then : (d : Stated) (x : Item) (s t : Scope) → IsBetweenItems s → WalksItem (meanings d) x s (Ok t) → IsThen s t
+pub item_then : (d : Stated) (x : Item) (s t : Scope) → IsBetweenItems s → WalksItem (meanings d) x s (Ok t) → IsThen s t
 item_then d (items.Opaque p n) s t b h = keeps_then (struct_keeps n true s b h.is)
 item_then d (items.Struct p n xs) s t b h = keeps_then (whole_keeps n xs s b h.is)
 item_then d (items.FunctionType p g k) s t b h = keeps_then (type_keeps (meanings d) (annotations_plain d) g k s b h)
 item_then d (items.Prototype g q k) s t b h = keeps_then (prototype_keeps (meanings d) (annotations_plain d) g k s b h)
 item_then d (items.Function g q k x) s t b h = keeps_then (definition_keeps (meanings d) (annotations_plain d) g k x s b h)
-item_then d (items.Ghost x) s t b h = record { foreseen = (form_behind d x.form s t b.names h).kept.foreseen; between = form_between d x.form s t b h }
+item_then d (items.Ghost x) s t b h = let k = form_behind d x.form s t b.names h in record { foreseen = k.kept.foreseen; grows = k.grows; between = form_between d x.form s t b h }
 
-items_then : (d : Stated) (xs : List Item) (s t : Scope) → IsBetweenItems s → WalksItems (meanings d) xs s (Ok t) → KeepsPredicates s t
+pub items_then : (d : Stated) (xs : List Item) (s t : Scope) → IsBetweenItems s → WalksItems (meanings d) xs s (Ok t) → KeepsPredicates s t
 items_then d [] s t b h = subst (KeepsPredicates s) (ok_same h.is) (predicates_itself s)
 items_then d (x ∷ xs) s t b h =
     let k = went h in
@@ -118,7 +120,7 @@ items_then d (x ∷ xs) s t b h =
     predicates_both i.foreseen (items_then d xs k.at t i.between k.next)
 
 -- the same predicates are seen
-stands_same : (s t : Scope) (name : List ℕ) (from : ℕ) → KeepsPredicates s t → stands_anywhere t name from ≡ stands_anywhere s name from
+pub stands_same : (s t : Scope) (name : List ℕ) (from : ℕ) → KeepsPredicates s t → stands_anywhere t name from ≡ stands_anywhere s name from
 stands_same s t name from k = by_files (at_name t.predicates t.predicate_files name) ∙ (λ i. stands_in s from (at_name (k.predicates i) (k.predicate_files i) name))
   where
     by_files : (o : Option (List ℕ)) → stands_in t from o ≡ stands_in s from o

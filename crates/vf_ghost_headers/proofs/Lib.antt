@@ -19,3 +19,4 @@ pub mod Inside
 pub mod Units
 pub mod Example
 pub mod Later
+pub mod LaterSorts

@@ -46,15 +46,16 @@ pub record KeepsNumbers (s t : Scope) : Type 0 where
   pub datatypes : t.datatypes ≡ s.datatypes
   pub predicates : t.predicates ≡ s.predicates
   pub predicate_files : t.predicate_files ≡ s.predicate_files
+  pub predicate_sorts : t.predicate_sorts ≡ s.predicate_sorts
 
 numbers_both : {s t u : Scope} → KeepsNumbers s t → KeepsNumbers t u → KeepsNumbers s u
-numbers_both h k = record { ghosts = k.ghosts ∙ h.ghosts; datatypes = k.datatypes ∙ h.datatypes; predicates = k.predicates ∙ h.predicates; predicate_files = k.predicate_files ∙ h.predicate_files }
+numbers_both h k = record { ghosts = k.ghosts ∙ h.ghosts; datatypes = k.datatypes ∙ h.datatypes; predicates = k.predicates ∙ h.predicates; predicate_files = k.predicate_files ∙ h.predicate_files; predicate_sorts = k.predicate_sorts ∙ h.predicate_sorts }
 
 plain_numbers : {s t : Scope} → IsPlain s t → KeepsNumbers s t
-plain_numbers h = record { ghosts = ap (λ (u : Scope). u.ghosts) h.is; datatypes = ap (λ (u : Scope). u.datatypes) h.is; predicates = ap (λ (u : Scope). u.predicates) h.is; predicate_files = ap (λ (u : Scope). u.predicate_files) h.is }
+plain_numbers h = record { ghosts = ap (λ (u : Scope). u.ghosts) h.is; datatypes = ap (λ (u : Scope). u.datatypes) h.is; predicates = ap (λ (u : Scope). u.predicates) h.is; predicate_files = ap (λ (u : Scope). u.predicate_files) h.is; predicate_sorts = ap (λ (u : Scope). u.predicate_sorts) h.is }
 
 same_numbers : {s t : Scope} → t ≡ s → KeepsNumbers s t
-same_numbers e = record { ghosts = ap (λ (u : Scope). u.ghosts) e; datatypes = ap (λ (u : Scope). u.datatypes) e; predicates = ap (λ (u : Scope). u.predicates) e; predicate_files = ap (λ (u : Scope). u.predicate_files) e }
+same_numbers e = record { ghosts = ap (λ (u : Scope). u.ghosts) e; datatypes = ap (λ (u : Scope). u.datatypes) e; predicates = ap (λ (u : Scope). u.predicates) e; predicate_files = ap (λ (u : Scope). u.predicate_files) e; predicate_sorts = ap (λ (u : Scope). u.predicate_sorts) e }
 
 kept : {s t : Scope} → OfOneUnit s t → ((y : List ℕ) (from : ℕ) → ghost_at t y from ≡ ghost_at s y from) → ((y : List ℕ) (from n : ℕ) → tag_of s y from ≡ Some n → tag_of t y from ≡ Some n) → KeepsNumbers s t → IsBetweenItems t → Keeps s t
 kept u e t n b = record {
@@ -67,7 +68,7 @@ kept u e t n b = record {
     datatypes = λ k x h. ap (λ xs. slice_get xs k) n.datatypes ∙ h;
   };
   between = b;
-  foreseen = record { unit = u; predicates = n.predicates; predicate_files = n.predicate_files };
+  foreseen = record { unit = u; predicates = n.predicates; predicate_files = n.predicate_files; predicate_sorts = n.predicate_sorts };
 }
 
 -- ---- functions and function types
@@ -91,11 +92,11 @@ named_keeps {s} {t} {r} {x} {m} {file} e d h n l =
     })
 
 again_numbers : (file : ℕ) (o : Option ℕ) (s : Scope) → KeepsNumbers s (again_in file o s)
-again_numbers file None s = record { ghosts = refl; datatypes = refl; predicates = refl; predicate_files = refl }
-again_numbers file (Some k) s = record { ghosts = refl; datatypes = refl; predicates = refl; predicate_files = refl }
+again_numbers file None s = record { ghosts = refl; datatypes = refl; predicates = refl; predicate_files = refl; predicate_sorts = refl }
+again_numbers file (Some k) s = record { ghosts = refl; datatypes = refl; predicates = refl; predicate_files = refl; predicate_sorts = refl }
 
 declared_numbers : {t : Scope} (n : Name) (c : CType) (o : Option ℕ) (s : Scope) → declared_as n c o s ≡ Ok t → KeepsNumbers s t
-declared_numbers n c None s h = record { ghosts = sym (ap (λ (u : Scope). u.ghosts) (ok_same h)); datatypes = sym (ap (λ (u : Scope). u.datatypes) (ok_same h)); predicates = sym (ap (λ (u : Scope). u.predicates) (ok_same h)); predicate_files = sym (ap (λ (u : Scope). u.predicate_files) (ok_same h)) }
+declared_numbers n c None s h = record { ghosts = sym (ap (λ (u : Scope). u.ghosts) (ok_same h)); datatypes = sym (ap (λ (u : Scope). u.datatypes) (ok_same h)); predicates = sym (ap (λ (u : Scope). u.predicates) (ok_same h)); predicate_files = sym (ap (λ (u : Scope). u.predicate_files) (ok_same h)); predicate_sorts = sym (ap (λ (u : Scope). u.predicate_sorts) (ok_same h)) }
 declared_numbers n c (Some k) s h =
     let i = refused_unless (again_in n.place.file (number_of s.names n.text) s) (refused _ n.place) (has_types c (real_types s.locals.meanings) (slice_get s.functions k)) h in
     numbers_both (again_numbers n.place.file (number_of s.names n.text) s) (same_numbers i.is)
@@ -110,8 +111,8 @@ type_numbers g c s e =
     let k = through (type_signed c) (behind (parameters_walked (listed g.parameters)) (type_named g.name s)) e in
     let j = through (parameters_walked (listed g.parameters)) (type_named g.name s) k.first in
     let i = refused_unless _ (refused _ g.name.place) (is_new s g.name.text) j.first in
-    numbers_both (record { ghosts = ap (λ (u : Scope). u.ghosts) i.is; datatypes = ap (λ (u : Scope). u.datatypes) i.is; predicates = ap (λ (u : Scope). u.predicates) i.is; predicate_files = ap (λ (u : Scope). u.predicate_files) i.is })
-    (numbers_both (plain_numbers (parameters_plain (listed g.parameters) j.at j.next)) (record { ghosts = sym (ap (λ (u : Scope). u.ghosts) (ok_same k.next)); datatypes = sym (ap (λ (u : Scope). u.datatypes) (ok_same k.next)); predicates = sym (ap (λ (u : Scope). u.predicates) (ok_same k.next)); predicate_files = sym (ap (λ (u : Scope). u.predicate_files) (ok_same k.next)) }))
+    numbers_both (record { ghosts = ap (λ (u : Scope). u.ghosts) i.is; datatypes = ap (λ (u : Scope). u.datatypes) i.is; predicates = ap (λ (u : Scope). u.predicates) i.is; predicate_files = ap (λ (u : Scope). u.predicate_files) i.is; predicate_sorts = ap (λ (u : Scope). u.predicate_sorts) i.is })
+    (numbers_both (plain_numbers (parameters_plain (listed g.parameters) j.at j.next)) (record { ghosts = sym (ap (λ (u : Scope). u.ghosts) (ok_same k.next)); datatypes = sym (ap (λ (u : Scope). u.datatypes) (ok_same k.next)); predicates = sym (ap (λ (u : Scope). u.predicates) (ok_same k.next)); predicate_files = sym (ap (λ (u : Scope). u.predicate_files) (ok_same k.next)); predicate_sorts = sym (ap (λ (u : Scope). u.predicate_sorts) (ok_same k.next)) }))
 
 -- a body without statements
 emptied : Body → Body
@@ -170,10 +171,10 @@ module _ (m : Meanings) (its : ArePlain m) where
 
 -- ---- structs
 struct_numbers : {t : Scope} (n : Name) (opaque : Bool) (o : Option ℕ) (s : Scope) → struct_found n opaque o s ≡ Ok t → KeepsNumbers s t
-struct_numbers n opaque None s h = record { ghosts = sym (ap (λ (u : Scope). u.ghosts) (ok_same h)); datatypes = sym (ap (λ (u : Scope). u.datatypes) (ok_same h)); predicates = sym (ap (λ (u : Scope). u.predicates) (ok_same h)); predicate_files = sym (ap (λ (u : Scope). u.predicate_files) (ok_same h)) }
+struct_numbers n opaque None s h = record { ghosts = sym (ap (λ (u : Scope). u.ghosts) (ok_same h)); datatypes = sym (ap (λ (u : Scope). u.datatypes) (ok_same h)); predicates = sym (ap (λ (u : Scope). u.predicates) (ok_same h)); predicate_files = sym (ap (λ (u : Scope). u.predicate_files) (ok_same h)); predicate_sorts = sym (ap (λ (u : Scope). u.predicate_sorts) (ok_same h)) }
 struct_numbers n opaque (Some k) s h =
     let i = refused_unless (with_struct_again s k n.place.file opaque) (refused _ n.place) (may_be_stated s n.place.file opaque (slice_get s.structures k)) h in
-    record { ghosts = ap (λ (u : Scope). u.ghosts) i.is; datatypes = ap (λ (u : Scope). u.datatypes) i.is; predicates = ap (λ (u : Scope). u.predicates) i.is; predicate_files = ap (λ (u : Scope). u.predicate_files) i.is }
+    record { ghosts = ap (λ (u : Scope). u.ghosts) i.is; datatypes = ap (λ (u : Scope). u.datatypes) i.is; predicates = ap (λ (u : Scope). u.predicates) i.is; predicate_files = ap (λ (u : Scope). u.predicate_files) i.is; predicate_sorts = ap (λ (u : Scope). u.predicate_sorts) i.is }
 
 pub struct_keeps : {t : Scope} (n : Name) (opaque : Bool) (s : Scope) → IsBetweenItems s → struct_ n opaque s ≡ Ok t → Keeps s t
 struct_keeps n opaque s b h =
@@ -184,7 +185,7 @@ whole_numbers : {t : Scope} (n : Name) (xs : List Typed) (s : Scope) → struct_
 whole_numbers n xs s h =
     let k = through (fields_walked n xs (struct_number s (number_of s.tags n.text))) (struct_ n false s) h in
     let j = through (with_found (struct_number s (number_of s.tags n.text)) k.at) (fields_behind k.at xs (no_fields n.place.file)) k.next in
-    numbers_both (struct_numbers n false (number_of s.tags n.text) s k.first) (record { ghosts = sym (ap (λ (u : Scope). u.ghosts) (ok_same j.next)); datatypes = sym (ap (λ (u : Scope). u.datatypes) (ok_same j.next)); predicates = sym (ap (λ (u : Scope). u.predicates) (ok_same j.next)); predicate_files = sym (ap (λ (u : Scope). u.predicate_files) (ok_same j.next)) })
+    numbers_both (struct_numbers n false (number_of s.tags n.text) s k.first) (record { ghosts = sym (ap (λ (u : Scope). u.ghosts) (ok_same j.next)); datatypes = sym (ap (λ (u : Scope). u.datatypes) (ok_same j.next)); predicates = sym (ap (λ (u : Scope). u.predicates) (ok_same j.next)); predicate_files = sym (ap (λ (u : Scope). u.predicate_files) (ok_same j.next)); predicate_sorts = sym (ap (λ (u : Scope). u.predicate_sorts) (ok_same j.next)) })
 
 pub whole_keeps : {t : Scope} (n : Name) (xs : List Typed) (s : Scope) → IsBetweenItems s → struct_walked n xs s ≡ Ok t → Keeps s t
 whole_keeps n xs s b h =

@@ -57,15 +57,16 @@ pub record KeepsPredicates (s t : Scope) : Type 0 where
   pub unit : OfOneUnit s t
   pub predicates : t.predicates ≡ s.predicates
   pub predicate_files : t.predicate_files ≡ s.predicate_files
+  pub predicate_sorts : t.predicate_sorts ≡ s.predicate_sorts
 
 pub predicates_itself : (s : Scope) → KeepsPredicates s s
-predicates_itself s = record { unit = of_one s; predicates = refl; predicate_files = refl }
+predicates_itself s = record { unit = of_one s; predicates = refl; predicate_files = refl; predicate_sorts = refl }
 
 pub predicates_both : {s t u : Scope} → KeepsPredicates s t → KeepsPredicates t u → KeepsPredicates s u
-predicates_both h k = record { unit = of_one_both h.unit k.unit; predicates = k.predicates ∙ h.predicates; predicate_files = k.predicate_files ∙ h.predicate_files }
+predicates_both h k = record { unit = of_one_both h.unit k.unit; predicates = k.predicates ∙ h.predicates; predicate_files = k.predicate_files ∙ h.predicate_files; predicate_sorts = k.predicate_sorts ∙ h.predicate_sorts }
 
 pub rest_predicates : {s t : Scope} → IsRest s t → KeepsPredicates s t
-rest_predicates h = record { unit = rest_unit h; predicates = ap (λ (u : Scope). u.predicates) h.is; predicate_files = ap (λ (u : Scope). u.predicate_files) h.is }
+rest_predicates h = record { unit = rest_unit h; predicates = ap (λ (u : Scope). u.predicates) h.is; predicate_files = ap (λ (u : Scope). u.predicate_files) h.is; predicate_sorts = ap (λ (u : Scope). u.predicate_sorts) h.is }
 
 -- tags and what they mean stay as they are, and what is known of predicates
 pub record KeepsTags (s t : Scope) : Type 0 where

@@ -76,12 +76,13 @@ beginnings_show header s t a b h = record {
     nothing_there : (s : Scope) (name : List ℕ) (from : ℕ) → IsBeginning s → declaration_of s name from ≡ None
     nothing_there s name from b = ap (λ xs. declared_in s from (at_name xs s.declarations name)) b.names
 
+-- in front of the items of a unit is a place between items
+pub between_beginning : (s : Scope) → IsBeginning s → IsBetweenItems s
+between_beginning s b = record {
+  names = ap length b.names ∙ sym (ap length b.declarations);
+  tags = ap length b.tags ∙ sym (ap length b.structures);
+  cleared = b.locals;
+}
+
 pub units_show_the_same_ghosts : UnitsShowTheSameGhosts
-units_show_the_same_ghosts header d e xs ys s t u v a b h r i j = headers_mean_the_same_ghosts header d e xs ys s t u v h.first h.second (between s a) (between t b) r i j (beginnings_show header s t a b h)
-  where
-    between : (s : Scope) → IsBeginning s → IsBetweenItems s
-    between s b = record {
-      names = ap length b.names ∙ sym (ap length b.declarations);
-      tags = ap length b.tags ∙ sym (ap length b.structures);
-      cleared = b.locals;
-    }
+units_show_the_same_ghosts header d e xs ys s t u v a b h r i j = headers_mean_the_same_ghosts header d e xs ys s t u v h.first h.second (between_beginning s a) (between_beginning t b) r i j (beginnings_show header s t a b h)

@@ -5,3 +5,4 @@ pub mod Items
 pub mod Units
 pub mod Example
 pub mod Later
+pub mod LaterSorts

@@ -3,6 +3,7 @@
 ghost use Rattle.vf_ghost_headers.specs.Example.{OneGhostHeaderOfTwoUnits};
 ghost use Rattle.vf_ghost_headers.specs.Items.{FormsInsideShowTheSame, GhostsElsewhereAreUnseen};
 ghost use Rattle.vf_ghost_headers.specs.Later.{LaterPredicatesAgree, PredicatesAreForeseen, PredicatesStayForeseen};
+ghost use Rattle.vf_ghost_headers.specs.LaterSorts.{LaterSortsAgree, SortsAreForeseen, SortsStayForeseen};
 ghost use Rattle.vf_ghost_headers.specs.Own.{HeadersSeeTheirOwnGhosts};
 ghost use Rattle.vf_ghost_headers.specs.Units.{HeadersMeanTheSameGhosts, UnitsShowTheSameGhosts};
 
@@ -59,4 +60,24 @@ pub fn predicates_stay_foreseen()
 #[tactic(auto, using(crate::proofs::Later::later_predicates_agree))]
 pub fn later_predicates_agree()
     ensures { LaterPredicatesAgree }
+{}
+
+/// A header in which the same items of annotations stand in two units that are accepted foresees predicates over the same
+/// sorts in both.
+#[tactic(auto, using(crate::proofs::LaterSorts::sorts_are_foreseen))]
+pub fn sorts_are_foreseen()
+    ensures { SortsAreForeseen }
+{}
+
+/// It foresees predicates over the same sorts behind any items that are accepted.
+#[tactic(auto, using(crate::proofs::LaterSorts::sorts_stay_foreseen))]
+pub fn sorts_stay_foreseen()
+    ensures { SortsStayForeseen }
+{}
+
+/// Where a header foresees predicates over the same sorts in two units, a name that is declared so far in both or in
+/// neither is that of a predicate that stands later in both, over the same sorts, or in neither.
+#[tactic(auto, using(crate::proofs::LaterSorts::later_sorts_agree))]
+pub fn later_sorts_agree()
+    ensures { LaterSortsAgree }
 {}
