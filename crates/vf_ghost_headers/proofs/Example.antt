@@ -28,23 +28,23 @@ scope_in (Ok s) = s
 scope_in (Err x) = empty 0
 
 -- behind a datatype
-abbrev behind_colour : Stated → Scope → Scope
+abbrev pub behind_colour : Stated → Scope → Scope
 behind_colour d s = scope_in (datatype_behind d (name_in 0 (codes "colour")) [] (constant_in 0 (codes "red") ∷ []) s)
 
 abbrev value_constructors : List Constructor
 value_constructors = constant_in 1 (codes "nil") ∷ (record { name = name_in 1 (codes "cons"); arguments = Some (argument (tree.any_ (start_of 1)) ∷ argument values_sort ∷ []) }) ∷ []
 
-abbrev behind_values : Stated → Scope → Scope
+abbrev pub behind_values : Stated → Scope → Scope
 behind_values d s = scope_in (datatype_behind d (name_in 1 (codes "values")) [] value_constructors s)
 
 -- behind the predicate
 abbrev all_values : List GhostParameter
 all_values = (record { after_semicolon = false; sort = values_sort; name = name_in 1 (codes "all") }) ∷ []
 
-abbrev named_holds : Scope → Scope
+abbrev pub named_holds : Scope → Scope
 named_holds s = scope_in (first_behind (name_in 1 (codes "holds")) all_values s)
 
-abbrev behind_holds : Scope → Scope
+abbrev pub behind_holds : Scope → Scope
 behind_holds s = without_body (count s) (number_at s (name_in 1 (codes "holds"))) (named_holds s)
 
 abbrev first_colour : Scope
@@ -79,7 +79,7 @@ first_part file h = eqb-true 1 file (or_none (nat_eq 1 file) h)
 second_part : (file : ℕ) → is_part_of second_beginning 1 file ≡ true → 1 ≡ file
 second_part file h = eqb-true 1 file (or_none (nat_eq 1 file) h)
 
-both_headers : IsHeaderOfBoth 1 first_beginning second_beginning
+pub both_headers : IsHeaderOfBoth 1 first_beginning second_beginning
 both_headers = record {
   files = λ file p. subst (λ f. slice_get first_beginning.headers f ≡ slice_get second_beginning.headers f) (first_part file p) refl;
   first = record {
@@ -92,7 +92,7 @@ both_headers = record {
   };
 }
 
-same_inside : HaveTheSameGhosts (is_part_of first_beginning 1) (colour ∷ values ∷ holds ∷ []) (values ∷ holds ∷ [])
+pub same_inside : HaveTheSameGhosts (is_part_of first_beginning 1) (colour ∷ values ∷ holds ∷ []) (values ∷ holds ∷ [])
 same_inside = outside_first refl (inside refl (inside refl none))
 
 pub one_ghost_header_of_two_units : OneGhostHeaderOfTwoUnits

@@ -20,3 +20,4 @@ pub mod Units
 pub mod Example
 pub mod Later
 pub mod LaterSorts
+pub mod LaterExample

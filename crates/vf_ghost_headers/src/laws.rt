@@ -3,6 +3,7 @@
 ghost use Rattle.vf_ghost_headers.specs.Example.{OneGhostHeaderOfTwoUnits};
 ghost use Rattle.vf_ghost_headers.specs.Items.{FormsInsideShowTheSame, GhostsElsewhereAreUnseen};
 ghost use Rattle.vf_ghost_headers.specs.Later.{LaterPredicatesAgree, PredicatesAreForeseen, PredicatesStayForeseen};
+ghost use Rattle.vf_ghost_headers.specs.LaterExample.{OneLaterPredicateOfTwoUnits, RefusedUnitsForeseeOtherSorts};
 ghost use Rattle.vf_ghost_headers.specs.LaterSorts.{LaterSortsAgree, SortsAreForeseen, SortsStayForeseen};
 ghost use Rattle.vf_ghost_headers.specs.Own.{HeadersSeeTheirOwnGhosts};
 ghost use Rattle.vf_ghost_headers.specs.Units.{HeadersMeanTheSameGhosts, UnitsShowTheSameGhosts};
@@ -80,4 +81,16 @@ pub fn sorts_stay_foreseen()
 #[tactic(auto, using(crate::proofs::LaterSorts::later_sorts_agree))]
 pub fn later_sorts_agree()
     ensures { LaterSortsAgree }
+{}
+
+/// A predicate that stands later in one header of two units is over the same sorts, though its datatype has two numbers.
+#[tactic(auto, using(crate::proofs::LaterExample::one_later_predicate_of_two_units))]
+pub fn one_later_predicate_of_two_units()
+    ensures { OneLaterPredicateOfTwoUnits }
+{}
+
+/// Where one of two units is refused, a header may foresee a predicate over other sorts in it than in the other.
+#[tactic(auto, using(crate::proofs::LaterExample::refused_units_foresee_other_sorts))]
+pub fn refused_units_foresee_other_sorts()
+    ensures { RefusedUnitsForeseeOtherSorts }
 {}
