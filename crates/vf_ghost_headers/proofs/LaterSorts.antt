@@ -61,12 +61,13 @@ itself x = (bytes_decides x x).1 refl
 declared_seen : {n : Name} {Q : GhostDeclaration → Type 0} {s t : Scope} (from : ℕ) → length s.names ≡ length s.declarations → Declares n Q s t → sees s from n.place.file ≡ true → IsGhost t n.text from
 declared_seen {s = s} from b (new d q) v = (length s.ghosts, new_means from b d v)
 declared_seen {n} {s = s} from b (again {k = k} d) v =
-    let o = or_there (ghost_at s n.text from) k in
-    (o.0,
-    (again_adds b d).names n.text from
-    ∙ ap (λ w. option_or (ghost_at s n.text from) (if w && sees s from n.place.file then Some k else None)) (itself n.text)
-    ∙ ap (λ w. option_or (ghost_at s n.text from) (if w then Some k else None)) v
-    ∙ o.1)
+    let o = or_there (ghost_at s n.text from) k in (
+      o.0,
+      (again_adds b d).names n.text from
+          ∙ ap (λ w. option_or (ghost_at s n.text from) (if w && sees s from n.place.file then Some k else None)) (itself n.text)
+          ∙ ap (λ w. option_or (ghost_at s n.text from) (if w then Some k else None)) v
+          ∙ o.1,
+    )
 
 form_seen : (d : Stated) (x : GhostForm) (s t : Scope) (n : Name) (from : ℕ) → length s.names ≡ length s.declarations → FormComes d x s (Ok t) → predicate_in x ≡ Some n → sees s from n.place.file ≡ true → IsGhost t n.text from
 form_seen d (forms.Predicate m gs) s t n from b h e v = subst (λ (n : Name). sees s from n.place.file ≡ true → IsGhost t n.text from) (some_same e) (declared_seen from b (predicate_declares m gs s h)) v

@@ -4,7 +4,7 @@
 //! `specs/Same.antt` has when a header shows the same names of annotations in two units: the numbers by which the units
 //! know datatypes, constructors, fixpoints, predicates and lemmas may differ. `specs/Own.antt` has that a header sees its
 //! own files alone; `specs/Items.antt` and `specs/Units.antt` go on to items and whole units, and `specs/Later.antt` to
-//! predicates that stand later in a unit.
+//! predicates that stand later in a unit, with their sorts in `specs/LaterSorts.antt`.
 #![tactic(auto)]
 
 pub mod laws;
