@@ -8,6 +8,7 @@ use Rattle.vf_resolve.specs.Units.{ItemsCome}
 use Rattle.vf_headers.specs.Parts.{is_part_of}
 use Rattle.vf_headers.specs.Units.{IsHeaderOfBoth}
 use Rattle.vf_ghost_headers.specs.Later.{ForeseeTheSame}
+use Rattle.vf_ghost_headers.specs.LaterSorts.{AreDeclaredAsTold, ForeseeTheSameSorts}
 use Rattle.vf_ghost_headers.specs.Same.{ShowTheSameGhosts}
 use Rattle.vf_ghost_headers.specs.Units.{HaveTheSameGhosts}
 
@@ -18,3 +19,11 @@ AnnotatedUnitsShowTheSameGhosts = (header : ℕ) (f g : Files) (xs ys : List Ite
 -- where the same items of annotations stand in a header of two units, the header foresees the same predicates in front of the items of both
 abbrev pub AnnotatedUnitsForeseeTheSame : Type 0
 AnnotatedUnitsForeseeTheSame = (header : ℕ) (f g : Files) (xs ys : List Item) → IsHeaderOfBoth header (beginning f xs) (beginning g ys) → HaveTheSameGhosts (is_part_of (beginning f xs) header) xs ys → ForeseeTheSame header (beginning f xs) (beginning g ys)
+
+-- each predicate of a unit that is accepted is declared over the sorts that are told of it in front of the items
+abbrev pub AcceptedUnitsDeclareAsTold : Type 0
+AcceptedUnitsDeclareAsTold = (f : Files) (xs : List Item) (u : Scope) → ItemsCome xs (beginning f xs) (Ok u) → AreDeclaredAsTold (beginning f xs) u
+
+-- where two units are accepted, and the same items of annotations stand in a header of both, the header foresees predicates over the same sorts in front of the items of both
+abbrev pub AnnotatedUnitsForeseeTheSameSorts : Type 0
+AnnotatedUnitsForeseeTheSameSorts = (header : ℕ) (f g : Files) (xs ys : List Item) (u v : Scope) → IsHeaderOfBoth header (beginning f xs) (beginning g ys) → HaveTheSameGhosts (is_part_of (beginning f xs) header) xs ys → ItemsCome xs (beginning f xs) (Ok u) → ItemsCome ys (beginning g ys) (Ok v) → ForeseeTheSameSorts header (beginning f xs) (beginning g ys) u v

@@ -9,6 +9,7 @@ use Rattle.vf_expand.specs.Wholes.{text_of, text_of_unit}
 use Rattle.vf_included.specs.Closed.{TellsApart}
 use Rattle.vf_resolve.specs.Units.{ItemsCome}
 use Rattle.vf_headers.specs.Parts.{is_part_of}
+use Rattle.vf_ghost_headers.specs.LaterSorts.{ForeseeTheSameSorts}
 use Rattle.vf_ghost_headers.specs.Same.{ShowTheSameGhosts}
 use Rattle.vf_ghost_headers.specs.Units.{HaveTheSameGhosts}
 use Rattle.vf_annotated_headers.specs.ExpandedUnits.{beginning_of, IsSharedHeader}
@@ -16,3 +17,7 @@ use Rattle.vf_annotated_headers.specs.ExpandedUnits.{beginning_of, IsSharedHeade
 -- where two units are expanded from files that are told apart, and accepted, and the same items of annotations stand in a header of both, the header shows the same names of annotations in both
 abbrev pub ExpandedUnitsShowTheSameGhosts : Type 0
 ExpandedUnitsShowTheSameGhosts = (library : Library) (held : Holdings) (p q : List ℕ) (a b : UnitTokens) (xs ys : List Item) (u v : Scope) (header : ℕ) → TellsApart library → text_of_unit library p ≡ Ok (text_of a) → text_of_unit library q ≡ Ok (text_of b) → IsSharedHeader held a b xs header → HaveTheSameGhosts (is_part_of (beginning_of held a xs) header) xs ys → ItemsCome xs (beginning_of held a xs) (Ok u) → ItemsCome ys (beginning_of held b ys) (Ok v) → ShowTheSameGhosts header u v
+
+-- and so it foresees predicates over the same sorts in front of the items of both
+abbrev pub ExpandedUnitsForeseeTheSameSorts : Type 0
+ExpandedUnitsForeseeTheSameSorts = (library : Library) (held : Holdings) (p q : List ℕ) (a b : UnitTokens) (xs ys : List Item) (u v : Scope) (header : ℕ) → TellsApart library → text_of_unit library p ≡ Ok (text_of a) → text_of_unit library q ≡ Ok (text_of b) → IsSharedHeader held a b xs header → HaveTheSameGhosts (is_part_of (beginning_of held a xs) header) xs ys → ItemsCome xs (beginning_of held a xs) (Ok u) → ItemsCome ys (beginning_of held b ys) (Ok v) → ForeseeTheSameSorts header (beginning_of held a xs) (beginning_of held b ys) u v

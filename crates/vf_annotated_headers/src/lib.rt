@@ -3,9 +3,9 @@
 //! Each law is the contract of a public function with an empty body.
 #![tactic(auto)]
 
-ghost use Rattle.vf_annotated_headers.specs.AnnotatedGhosts.{AnnotatedUnitsForeseeTheSame, AnnotatedUnitsShowTheSameGhosts};
+ghost use Rattle.vf_annotated_headers.specs.AnnotatedGhosts.{AcceptedUnitsDeclareAsTold, AnnotatedUnitsForeseeTheSame, AnnotatedUnitsForeseeTheSameSorts, AnnotatedUnitsShowTheSameGhosts};
 ghost use Rattle.vf_annotated_headers.specs.AnnotatedUnits.{AnnotatedUnitsShowTheSame, StrippedItemsAreTheSame};
-ghost use Rattle.vf_annotated_headers.specs.ExpandedGhosts.{ExpandedUnitsShowTheSameGhosts};
+ghost use Rattle.vf_annotated_headers.specs.ExpandedGhosts.{ExpandedUnitsForeseeTheSameSorts, ExpandedUnitsShowTheSameGhosts};
 ghost use Rattle.vf_annotated_headers.specs.ExpandedUnits.{ExpandedUnitsShowTheSame};
 
 /// Where the same items stand in a header, the same of them are left without annotations.
@@ -41,4 +41,24 @@ pub fn expanded_units_show_the_same_ghosts()
 #[tactic(auto, using(crate::proofs::AnnotatedGhosts::annotated_units_foresee_the_same))]
 pub fn annotated_units_foresee_the_same()
     ensures { AnnotatedUnitsForeseeTheSame }
+{}
+
+/// In a unit that is accepted each predicate is declared over the sorts that are told of it in front of the items.
+#[tactic(auto, using(crate::proofs::AnnotatedGhosts::accepted_units_declare_as_told))]
+pub fn accepted_units_declare_as_told()
+    ensures { AcceptedUnitsDeclareAsTold }
+{}
+
+/// A header in which the same items of annotations stand foresees predicates over the same sorts in front of the items of
+/// two units that are accepted.
+#[tactic(auto, using(crate::proofs::AnnotatedGhosts::annotated_units_foresee_the_same_sorts))]
+pub fn annotated_units_foresee_the_same_sorts()
+    ensures { AnnotatedUnitsForeseeTheSameSorts }
+{}
+
+/// A header in which the same items of annotations stand foresees predicates over the same sorts in front of the items of
+/// two units that are expanded and accepted.
+#[tactic(auto, using(crate::proofs::ExpandedGhosts::expanded_units_foresee_the_same_sorts))]
+pub fn expanded_units_foresee_the_same_sorts()
+    ensures { ExpandedUnitsForeseeTheSameSorts }
 {}

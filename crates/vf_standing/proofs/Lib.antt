@@ -5,15 +5,15 @@ mod Lemmas
 mod Ghosts
 mod Items
 mod Lists
-mod Adding
+pub mod Adding
 mod Standing
 mod Identities
 mod Told
 mod Numbers
-mod Foretold
+pub mod Foretold
 mod Tags
-mod Reaching
+pub mod Reaching
 pub mod Laws
-mod UpTo
+pub mod UpTo
 mod Example
 mod Marked

@@ -42,7 +42,8 @@ nothing_reached f xs = record {
     nowhere : {A : Type 0} {x : List ℕ} {n : ℕ} {g : GhostDeclaration} → Means (core (beginning f xs)) x n g → A
     nowhere m = let e = m.found in absurd cc
 
-whole_reached : (f : Files) (xs : List Item) (s : Scope) → ItemsCome xs (beginning f xs) (Ok s) → Reaches (bare (beginning f xs)) (ahead_of xs) (foretold_of xs) (core s)
+-- at the end of a unit what is declared is what was told of all its items
+pub whole_reached : (f : Files) (xs : List Item) (s : Scope) → ItemsCome xs (beginning f xs) (Ok s) → Reaches (bare (beginning f xs)) (ahead_of xs) (foretold_of xs) (core s)
 whole_reached f xs s h = items_reach (bare (beginning f xs)) h.stated (ahead_of xs) xs ahead.nothing foretold.none_foretold (beginning f xs) refl refl (nothing_reached f xs) s h.walks
 
 -- ---- names up to one
