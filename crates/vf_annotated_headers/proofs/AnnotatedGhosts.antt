@@ -1,6 +1,5 @@
 -- Units that are accepted.
-use Rattle.std.proofs.Common.{List, Ok, refl}
-use Rattle.vf_declared.specs.declared.scope.Scope.{Scope}
+use Rattle.std.proofs.Common.{List, refl}
 use Rattle.vf_syntax.specs.declared.item.Item.{Item}
 use Rattle.vf_resolve.specs.declared.files.Files.{Files}
 use Rattle.vf_gathering.proofs.Sorting.{predicates_told}
