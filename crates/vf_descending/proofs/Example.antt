@@ -43,9 +43,10 @@ use Rattle.vf_defining.specs.Fixpoints as defined
 use Rattle.vf_defining.specs.Symbols.{without_locals}
 use Rattle.vf_defining.specs.Units.{HaveDefinitions, no_items, more_items, other_item, fixpoint, within_fixpoint}
 use Rattle.vf_defining.specs.UpTo.{up_to}
+use Rattle.vf_standing.specs.Names.{is_marked}
 use Rattle.vf_descending.specs.Example.{ListsAreAccepted, cons_case, cons_text, datatype, here, length, length_text, list_definitions, list_items, list_paths, named, nil_case, nil_text, one_file, parameter, tail_length}
 use Rattle.vf_descending.specs.Laws.{IsAccepted}
-use Rattle.vf_descending.specs.Ranks.{HavePlainNames, is_marked}
+use Rattle.vf_descending.specs.Ranks.{HavePlainNames}
 use Rattle.vf_descending.proofs.Lists.{name_there}
 use Rattle.vf_descending.proofs.Units.{accepted_fixpoints_go_down, accepted_fixpoints_have_each_case}
 

@@ -6,7 +6,8 @@ use Rattle.vf_names.specs.Names.{number_of}
 use Rattle.vf_declared.specs.declared.scope.Scope.{Scope}
 use Rattle.vf_terms.specs.Named.{first_path, identity_of}
 use Rattle.vf_defining.specs.Bodies.{place_or_first}
-use Rattle.vf_descending.specs.Ranks.{HavePlainNames, is_marked, mark, name_in, rank_of, ranks_of}
+use Rattle.vf_standing.specs.Names.{is_marked, mark}
+use Rattle.vf_descending.specs.Ranks.{HavePlainNames, name_in, rank_of, ranks_of}
 
 -- no name stands in what has no `#`
 plain_alone : (x : List ℕ) → is_marked x ≡ false → name_in x ≡ None

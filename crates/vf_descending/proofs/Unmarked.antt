@@ -11,7 +11,7 @@ use Rattle.vf_env.specs.Trees.{is_among}
 use Rattle.vf_env_laws.proofs.Laws.{names_are_declared}
 use Rattle.vf_env_laws.proofs.Putting.{only_names_of_items, place_among}
 use Rattle.vf_descending.specs.Laws.{UnmarkedItemsHavePlainNames}
-use Rattle.vf_descending.specs.Ranks.{AreUnmarked, is_marked}
+use Rattle.vf_standing.specs.Names.{AreUnmarked, is_marked}
 
 -- ---- parts of lists
 none_first : (f : List ℕ → Bool) (xs ys : List (List ℕ)) → list_any f (xs ++ ys) ≡ false → list_any f xs ≡ false

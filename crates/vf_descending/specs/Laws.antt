@@ -11,7 +11,8 @@ use Rattle.vf_defining.specs.Symbols.{without_locals}
 use Rattle.vf_defining.specs.Units.{HaveDefinitions}
 use Rattle.vf_keeping.specs.Bodies.{declared_at}
 use Rattle.vf_keeping.specs.Units.{GoDown, HaveEachCase}
-use Rattle.vf_descending.specs.Ranks.{AreUnmarked, HavePlainNames, ranks_of}
+use Rattle.vf_standing.specs.Names.{AreUnmarked}
+use Rattle.vf_descending.specs.Ranks.{HavePlainNames, ranks_of}
 
 -- the items of a unit are accepted: they come to what they declare, in whose names no `#` stands, no fixpoint among them is refused, and they have these definitions
 pub record IsAccepted (f : Files) (paths : List (List ℕ)) (xs : List Item) (s : Scope) (fs : List definitions.Fixpoint) : Type 0 where
