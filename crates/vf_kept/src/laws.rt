@@ -1,0 +1,20 @@
+//! Laws of the fixpoints of accepted units. Each function does nothing; its contract is the law.
+
+ghost use Rattle.vf_kept.specs.Accepted.{AcceptedFixpointsKeepSorts, AcceptedUnitsDefine, AcceptedValuesFollowSorting};
+
+/// A unit that is accepted, in whose names no `#` stands, meets all that is asked of units, where an interpretation gives
+/// the definitions of its items the values of their bodies.
+pub fn accepted_units_define()
+    ensures { AcceptedUnitsDefine }
+{}
+
+/// So the fixpoints that such a unit declares keep sorts, where those with results of integers give numbers.
+pub fn accepted_fixpoints_keep_sorts()
+    ensures { AcceptedFixpointsKeepSorts }
+{}
+
+/// And the term of an expression that has a sort, or passes for one, where the unit covers what is declared, has a value of
+/// that sort as it is known in the end, where the terms that stand there have values of their sorts.
+pub fn accepted_values_follow_sorting()
+    ensures { AcceptedValuesFollowSorting }
+{}
