@@ -1,6 +1,7 @@
 //! Laws of the fixpoints of accepted units. Each function does nothing; its contract is the law.
 
 ghost use Rattle.vf_kept.specs.Accepted.{AcceptedFixpointsKeepSorts, AcceptedUnitsDefine, AcceptedValuesFollowSorting};
+ghost use Rattle.vf_kept.specs.Example.{RestsAreLists};
 
 /// A unit that is accepted, in whose names no `#` stands, meets all that is asked of units, where an interpretation gives
 /// the definitions of its items the values of their bodies.
@@ -17,4 +18,10 @@ pub fn accepted_fixpoints_keep_sorts()
 /// that sort as it is known in the end, where the terms that stand there have values of their sorts.
 pub fn accepted_values_follow_sorting()
     ensures { AcceptedValuesFollowSorting }
+{}
+
+/// A unit of lists with the rest and the length of one is accepted, and in each interpretation that gives these the values
+/// of their bodies `rest(xs)` has a list as its value wherever `xs` has one, and `length(rest(xs))` a number.
+pub fn rests_are_lists()
+    ensures { RestsAreLists }
 {}

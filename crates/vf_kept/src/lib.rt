@@ -8,4 +8,5 @@ mod laws;
 
 pub use laws::{
     accepted_fixpoints_keep_sorts, accepted_units_define, accepted_values_follow_sorting,
+    rests_are_lists,
 };
