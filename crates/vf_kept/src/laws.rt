@@ -2,6 +2,7 @@
 
 ghost use Rattle.vf_kept.specs.Accepted.{AcceptedFixpointsKeepSorts, AcceptedUnitsDefine, AcceptedValuesFollowSorting};
 ghost use Rattle.vf_kept.specs.Example.{RestsAreLists};
+ghost use Rattle.vf_kept.specs.Parameters.{ParametersAreNeverMet};
 
 /// A unit that is accepted, in whose names no `#` stands, meets all that is asked of units, where an interpretation gives
 /// the definitions of its items the values of their bodies.
@@ -24,4 +25,10 @@ pub fn accepted_values_follow_sorting()
 /// of their bodies `rest(xs)` has a list as its value wherever `xs` has one, and `length(rest(xs))` a number.
 pub fn rests_are_lists()
     ensures { RestsAreLists }
+{}
+
+/// No interpretation gives a fixpoint with a result of a type parameter the values of its body: it has a definition for
+/// integers too, whose body is not of integers. So these laws say nothing of units that have one.
+pub fn parameters_are_never_met()
+    ensures { ParametersAreNeverMet }
 {}

@@ -8,5 +8,5 @@ mod laws;
 
 pub use laws::{
     accepted_fixpoints_keep_sorts, accepted_units_define, accepted_values_follow_sorting,
-    rests_are_lists,
+    parameters_are_never_met, rests_are_lists,
 };
