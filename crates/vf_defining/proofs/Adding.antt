@@ -11,7 +11,7 @@ use Rattle.vf_binding.proofs.Steps.{failing, wanting}
 use Rattle.vf_definitions.specs.declared.fixpoint.Body.{Body}
 use Rattle.vf_definitions.specs.declared.fixpoint.Fixpoint as definitions
 use Rattle.vf_defining.specs.Fixpoints.{IsDefined}
-use Rattle.vf_defining.specs.Units.{Written, written_in, within_fixpoint, kinds_of_sort, definition_of, IsNumbered, ItemDefines, ItemIsRefused, HaveDefinitions, AnyIsRefused, IsAdded, AreDefined}
+use Rattle.vf_defining.specs.Units.{Written, written_in, within_fixpoint, definitions_of, IsNumbered, ItemDefines, ItemIsRefused, HaveDefinitions, AnyIsRefused, IsAdded, AreDefined}
 use Rattle.vf_defining.specs.Units as units
 use Rattle.vf_defining.specs.UpTo.{up_to}
 use Rattle.vf_defining.proofs.UpTo.{numbered_up_to, numbered_whole}
@@ -34,10 +34,10 @@ refused {s = s} {u = u} {paths = paths} {w = w} {n = n} {f = f} e a b c d q =
     let i = subst (λ (v : Scope). IsDefined v paths n w.body (Err e)) c d in
     record { answers = failing _ _ _ e (λ r h. units.ItemIsRefused.its_body a (numbered_whole s w n f b) h) i.answers q }
 
-pub added : {s u : Scope} {paths : List (List ℕ)} {x : Item} {w : Written} {n : ℕ} {f : declared.Fixpoint} {b : Body} {before after : List definitions.Fixpoint} → written_in x ≡ Some w → IsNumbered (up_to w.name s) w n f → u ≡ within_fixpoint (up_to w.name s) w.parameters f.arguments → IsDefined u paths n w.body (Ok b) → after ≡ before ++ map (definition_of s paths w b) (kinds_of_sort f.result) → IsAdded s paths x before after (Ok tt)
+pub added : {s u : Scope} {paths : List (List ℕ)} {x : Item} {w : Written} {n : ℕ} {f : declared.Fixpoint} {b : Body} {before after : List definitions.Fixpoint} → written_in x ≡ Some w → IsNumbered (up_to w.name s) w n f → u ≡ within_fixpoint (up_to w.name s) w.parameters f.arguments → IsDefined u paths n w.body (Ok b) → after ≡ before ++ definitions_of s paths w b f.result → IsAdded s paths x before after (Ok tt)
 added {s = s} {paths = paths} {w = w} {n = n} {f = f} {b = b} a k c d e =
     let i = subst (λ (v : Scope). IsDefined v paths n w.body (Ok b)) c d in
-    record { answers = (map (definition_of s paths w b) (kinds_of_sort f.result), e, units.ItemDefines.fixpoint a (numbered_whole s w n f k) i.answers) }
+    record { answers = (definitions_of s paths w b f.result, e, units.ItemDefines.fixpoint a (numbered_whole s w n f k) i.answers) }
 
 append_grouped : {A : Type 0} (xs ys zs : List A) → (xs ++ ys) ++ zs ≡ xs ++ (ys ++ zs)
 append_grouped [] ys zs = refl

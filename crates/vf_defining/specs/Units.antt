@@ -3,7 +3,8 @@ use Rattle.std.specs.Prelude.{◌≡◌, ℕ, List, [], ◌∷◌, ◌++◌, len
 use Rattle.std.specs.declared.result.Result.{Result}
 use Rattle.vf_base.specs.declared.refusal.Refusal.{Refusal}
 use Rattle.vf_base.specs.declared.refusal.RuleFault.{RuleFault}
-use Rattle.vf_formula.specs.declared.head.Kind.{Kind}
+use Rattle.vf_tree.specs.Core.{Identity}
+use Rattle.vf_normal.specs.Sums.{as_integer}
 use Rattle.vf_formula.specs.declared.head.Kind.TheVariants as kinds
 use Rattle.vf_sorts.specs.declared.sort.Head.TheVariants as heads
 use Rattle.vf_sorts.specs.Sorts.{Sort, sort}
@@ -25,6 +26,8 @@ use Rattle.vf_binding.specs.Bound.{with_names}
 use Rattle.vf_asserting.specs.Leaving.{count}
 use Rattle.vf_equations.specs.Fixpoints.{EquationsCome}
 use Rattle.vf_definitions.specs.declared.fixpoint.Body.{Body}
+use Rattle.vf_definitions.specs.declared.fixpoint.Body.TheVariants.{Returns, Switches}
+use Rattle.vf_definitions.specs.declared.fixpoint.Case.{Case}
 use Rattle.vf_definitions.specs.declared.fixpoint.Fixpoint as definitions
 use Rattle.vf_defining.specs.Symbols.{without_locals}
 use Rattle.vf_defining.specs.UpTo.{up_to}
@@ -34,12 +37,6 @@ use Rattle.vf_defining.specs.Fixpoints.{Defines}
 -- what is declared in the body of a fixpoint: its parameters are the locals
 abbrev pub within_fixpoint : Scope → List GhostParameter → List Sort → Scope
 within_fixpoint s gs ts = with_names (without_locals s) (record { names = map (λ (g : GhostParameter). g.name.text) gs; sorts = ts })
-
--- the kinds of applications of a fixpoint with a result of a sort: of both kinds where that is a type parameter
-abbrev pub kinds_of_sort : Sort → List Kind
-kinds_of_sort (sort heads.Int ts) = kinds.Integer ∷ []
-kinds_of_sort (sort (heads.Parameter n) ts) = kinds.Other ∷ kinds.Integer ∷ []
-kinds_of_sort t = kinds.Other ∷ []
 
 -- a fixpoint, its name, its parameters and its body, as the text has it
 pub record Written : Type 0 where
@@ -60,9 +57,24 @@ abbrev pub written_in : Item → Option Written
 written_in (items.Ghost x) = written_form x.form
 written_in x = None
 
--- a definition of a kind, of a fixpoint with a body in terms
-abbrev pub definition_of : Scope → List (List ℕ) → Written → Body → Kind → definitions.Fixpoint
-definition_of s paths w b k = record { kind = k; identity = identity_at s paths w.name; parameters = length w.parameters; body = b }
+-- a case whose result is taken as a number
+abbrev pub case_of_integers : Case → Case
+case_of_integers c = record { constructor = c.constructor; names = c.names; result = as_integer c.result }
+
+-- a body whose results are taken as numbers
+abbrev pub of_integers : Body → Body
+of_integers (Returns t) = Returns (as_integer t)
+of_integers (Switches k cases) = Switches k (map case_of_integers cases)
+
+-- the definitions of a fixpoint with an identity, so many parameters, a body in terms and a result of a sort, one for each kind of its applications: it has both kinds where that is a type parameter, and as an integer it gives the number of what it gives
+abbrev pub definitions_by : Identity → ℕ → Body → Sort → List definitions.Fixpoint
+definitions_by c m b (sort heads.Int ts) = (record { kind = kinds.Integer; identity = c; parameters = m; body = b }) ∷ []
+definitions_by c m b (sort (heads.Parameter n) ts) = (record { kind = kinds.Other; identity = c; parameters = m; body = b }) ∷ (record { kind = kinds.Integer; identity = c; parameters = m; body = of_integers b }) ∷ []
+definitions_by c m b t = (record { kind = kinds.Other; identity = c; parameters = m; body = b }) ∷ []
+
+-- the same of a fixpoint as the text has it
+abbrev pub definitions_of : Scope → List (List ℕ) → Written → Body → Sort → List definitions.Fixpoint
+definitions_of s paths w b t = definitions_by (identity_at s paths w.name) (length w.parameters) b t
 
 -- the number and the declaration of the fixpoint that a name means
 pub record IsNumbered (s : Scope) (w : Written) (n : ℕ) (f : declared.Fixpoint) : Type 0 where
@@ -73,7 +85,7 @@ pub record IsNumbered (s : Scope) (w : Written) (n : ℕ) (f : declared.Fixpoint
 pub data ItemDefines (s : Scope) (paths : List (List ℕ)) : Item → List definitions.Fixpoint → Type 0 where
   other_item : {x : Item} → written_in x ≡ None → ItemDefines s paths x []
   stray_item : {x : Item} {w : Written} → written_in x ≡ Some w → ((n : ℕ) (f : declared.Fixpoint) → IsNumbered s w n f → ⊥) → ItemDefines s paths x []
-  fixpoint : {x : Item} {w : Written} {n : ℕ} {f : declared.Fixpoint} {b : Body} → written_in x ≡ Some w → IsNumbered s w n f → Defines (within_fixpoint (up_to w.name s) w.parameters f.arguments) paths n w.body b → ItemDefines s paths x (map (definition_of s paths w b) (kinds_of_sort f.result))
+  fixpoint : {x : Item} {w : Written} {n : ℕ} {f : declared.Fixpoint} {b : Body} → written_in x ≡ Some w → IsNumbered s w n f → Defines (within_fixpoint (up_to w.name s) w.parameters f.arguments) paths n w.body b → ItemDefines s paths x (definitions_of s paths w b f.result)
 
 -- the body of a fixpoint is refused where its parameters are the locals and its name is the last of file level
 pub data ItemIsRefused (s : Scope) : Item → Refusal → Type 0 where

@@ -7,6 +7,7 @@
 mod bodies;
 mod cases;
 mod fixpoints;
+mod integers;
 mod switching;
 mod symbols;
 mod units;

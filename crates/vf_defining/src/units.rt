@@ -4,13 +4,13 @@ ghost use Rattle.std.specs.Prelude.{◌≡◌, ℕ, [], ◌++◌, map, IfOk, OnO
 ghost use Rattle.std.specs.Option.{option_map};
 ghost use Rattle.vf_declared.specs.declared.declaration.Fixpoint as fixpoints;
 ghost use Rattle.vf_syntax.specs.declared.item.GhostParameter as rows;
-ghost use Rattle.vf_formula.specs.declared.head.Kind as kinds;
 ghost use Rattle.vf_defining.specs.Symbols.{without_locals};
 ghost use Rattle.vf_defining.specs.UpTo.{AreFirst, with_level};
-ghost use Rattle.vf_defining.specs.Units.{AreDefined, IsAdded, IsNumbered, kinds_of_sort, written_form, written_in, written_of};
+ghost use Rattle.vf_defining.specs.Units.{AreDefined, IsAdded, IsNumbered, definitions_by, written_form, written_in, written_of};
 
 use crate::bodies::identity_at;
 use crate::fixpoints::define_body;
+use crate::integers::of_integers;
 use crate::up_to::{FileLevel, keep_up_to};
 use std::alloc::Global;
 use vf_base::{Memory, RuleFault, Sequence, Text};
@@ -86,7 +86,7 @@ fn texts(alloc: Global, parameters: &Sequence<GhostParameter>) -> Result<Names, 
     Ok(texts)
 }
 
-/// Adds the definitions of a fixpoint, one for each kind of its applications.
+/// Adds the definitions of a fixpoint as the text has it, one for each kind of its applications.
 fn add(
     alloc: Global,
     into: &mut Definitions,
@@ -95,7 +95,7 @@ fn add(
     parameters: usize,
     body: Body,
 ) -> Result<(), Memory>
-    ensures { OnOk result (into.new ≡ into.old ++ map (λ (k : kinds.Kind). record { kind = k; identity = identity; parameters = parameters; body = body }) (kinds_of_sort sort.now)) }
+    ensures { OnOk result (into.new ≡ into.old ++ definitions_by identity parameters body sort.now) }
 {
     match sort.head {
         Head::Int => into.push(Fixpoint {
@@ -111,6 +111,7 @@ fn add(
                 parameters,
                 body: body.copy(alloc)?,
             })?;
+            let body = of_integers(alloc, body)?;
             into.push(Fixpoint {
                 kind: Kind::Integer,
                 identity,

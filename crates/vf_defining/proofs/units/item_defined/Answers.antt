@@ -1,11 +1,10 @@
 use Rattle.std.proofs.Common.{rules, ◌≡◌, ◌++◌, ℕ, map, Err, sym, subst, ap, ◌∙◌}
 use Rattle.vf_declared.specs.declared.declaration.Fixpoint as declared
 use Rattle.vf_declared.specs.declared.scope.Scope.{Scope}
-use Rattle.vf_formula.specs.declared.head.Kind.{Kind}
 use Rattle.vf_binding.specs.Bound.{with_names}
 use Rattle.vf_defining.specs.Bodies.{identity_at}
 use Rattle.vf_defining.specs.UpTo.{up_to, with_level}
-use Rattle.vf_defining.specs.Units.{IsNumbered, kinds_of_sort, within_fixpoint, definition_of, written_of}
+use Rattle.vf_defining.specs.Units.{IsNumbered, definitions_by, definitions_of, within_fixpoint, written_of}
 use Rattle.vf_defining.proofs.Adding.{other, stray, refused, added}
 use Rattle.vf_defining.proofs.UpTo.{identity_itself}
 use Rattle.vf_defining.proofs.units.item_defined.Goals as goal
@@ -44,6 +43,6 @@ returns-clause-added c =
     let within : c.declare_names.new.scope ≡ within_fixpoint (up_to w.name s) w.parameters f.arguments =
     c.in_ok-declare_names.ensures ∙ (λ i. with_names (same i) (record { names = c.in_ok-names.ensures i; sorts = c.in_ok-sorts.ensures i })) in
     let named : c.in_ok-identity.identity ≡ identity_at s paths w.name = c.in_ok-identity.ensures ∙ ap (λ (u : Scope). identity_at u paths w.name) same ∙ identity_itself w.name s paths in
-    let all : c.add.new.into ≡ c.args.into.now ++ map (definition_of s paths w b) (kinds_of_sort f.result) =
-    c.in_ok-add.ensures ∙ (λ i. c.args.into.now ++ map (λ (k : Kind). record { kind = k; identity = named i; parameters = c.len.ensures i; body = b }) (kinds_of_sort (c.in_ok-sort.ensures i))) in
+    let all : c.add.new.into ≡ c.args.into.now ++ definitions_of s paths w b f.result =
+    c.in_ok-add.ensures ∙ (λ i. c.args.into.now ++ definitions_by (named i) (c.len.ensures i) b (c.in_ok-sort.ensures i)) in
     added (sym c.in-Some.ensures) is within c.in_ok-body.ensures.defined all
