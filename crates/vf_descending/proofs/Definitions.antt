@@ -1,18 +1,19 @@
 -- The definitions of items are those of fixpoints among them, none of which is refused where no item is.
 use Rattle.std.proofs.Common.{◌≡◌, refl, sym, subst, ◌⊎◌, inl, inr, ⊎_elim, ℕ, zero, suc, List, [], ◌∷◌, ◌++◌, length, map, Some, None, arith}
 use Rattle.std.specs.Prelude.{Contains}
-use Rattle.vf_formula.specs.declared.head.Kind.{Kind}
 use Rattle.vf_syntax.specs.declared.item.GhostForm.{GhostForm}
 use Rattle.vf_syntax.specs.declared.item.GhostForm.TheVariants as forms
 use Rattle.vf_syntax.specs.declared.item.Item.{Item}
 use Rattle.vf_syntax.specs.declared.item.Item.TheVariants as items
 use Rattle.vf_declared.specs.declared.declaration.Fixpoint as declaration
 use Rattle.vf_declared.specs.declared.scope.Scope.{Scope}
+use Rattle.vf_definitions.specs.declared.fixpoint.Body.{Body}
 use Rattle.vf_definitions.specs.declared.fixpoint.Fixpoint as definitions
 use Rattle.vf_defining.specs.Bodies.{identity_at}
 use Rattle.vf_defining.specs.Fixpoints.{Defines}
-use Rattle.vf_defining.specs.Units.{HaveDefinitions, no_items, more_items, IsNumbered, ItemDefines, other_item, stray_item, fixpoint, Written, definition_of, kinds_of_sort, within_fixpoint, written_form, written_in}
+use Rattle.vf_defining.specs.Units.{HaveDefinitions, no_items, more_items, IsNumbered, ItemDefines, other_item, stray_item, fixpoint, Written, of_integers, within_fixpoint, written_form, written_in}
 use Rattle.vf_defining.specs.UpTo.{up_to}
+use Rattle.vf_keeping.proofs.Taken.{one_of}
 use Rattle.vf_fixpoint.specs.Cases.{refused_at}
 use Rattle.vf_recursion.specs.Faults.{constructors_of, fault_among, form_fault, item_fault}
 use Rattle.vf_descending.proofs.Bodies.{neither_there}
@@ -24,13 +25,8 @@ apart [] ys a c = inr c
 apart (x ∷ xs) ys a (zero, l, is) = inl (zero, omega arith, is)
 apart (x ∷ xs) ys a (suc k, l, is) = ⊎_elim (λ p. inl (suc p.0, omega (arith, p.1), p.2)) (λ q. inr q) (apart xs ys a (k, omega (arith, l), is))
 
-mapped_from : {A B : Type 0} (f : A → B) (xs : List A) (b : B) → Contains (map f xs) b → (a : A) × (b ≡ f a)
-mapped_from f [] b (k, l, is) = absurd (omega (arith, l))
-mapped_from f (x ∷ xs) b (zero, l, is) = (x, sym is)
-mapped_from f (x ∷ xs) b (suc k, l, is) = mapped_from f xs b (k, omega (arith, l), is)
-
 -- ---- definitions
--- a definition is that of a fixpoint among items
+-- a definition is that of a fixpoint among items, with its body as it is read, or taken as numbers
 pub record IsOfItem (s : Scope) (paths : List (List ℕ)) (xs : List Item) (k : definitions.Fixpoint) : Type 0 where
   pub item : Item
   pub among : Contains xs item
@@ -39,7 +35,9 @@ pub record IsOfItem (s : Scope) (paths : List (List ℕ)) (xs : List Item) (k : 
   pub number : ℕ
   pub declared : declaration.Fixpoint
   pub numbered : IsNumbered s written number declared
-  pub defines : Defines (within_fixpoint (up_to written.name s) written.parameters declared.arguments) paths number written.body k.body
+  pub body : Body
+  pub defines : Defines (within_fixpoint (up_to written.name s) written.parameters declared.arguments) paths number written.body body
+  pub taken : (k.body ≡ body) ⊎ (k.body ≡ of_integers body)
   pub identity : k.identity ≡ identity_at s paths written.name
   pub counted : k.parameters ≡ length written.parameters
 
@@ -47,11 +45,8 @@ item_defines : (s : Scope) (paths : List (List ℕ)) (x : Item) (xs : List Item)
 item_defines s paths x xs ds (other_item e) among k (j, l, is) = absurd (omega (arith, l))
 item_defines s paths x xs ds (stray_item e stray) among k (j, l, is) = absurd (omega (arith, l))
 item_defines s paths x xs ds (fixpoint {w} {n} {f} {b} e numbered defines) among k there =
-    let r = mapped_from (definition_of s paths w b) (kinds_of_sort f.result) k there in
-    subst (IsOfItem s paths xs) (sym r.1) (of r.0)
-  where
-    of : (y : Kind) → IsOfItem s paths xs (definition_of s paths w b y)
-    of y = record { item = x; among = among; written = w; is = e; number = n; declared = f; numbered = numbered; defines = defines; identity = refl; counted = refl }
+    let o = one_of s paths w b f.result k there in
+    record { item = x; among = among; written = w; is = e; number = n; declared = f; numbered = numbered; body = b; defines = defines; taken = o.taken; identity = o.identity; counted = o.counted }
 
 further : {s : Scope} {paths : List (List ℕ)} {x : Item} {xs : List Item} {k : definitions.Fixpoint} → IsOfItem s paths xs k → IsOfItem s paths (x ∷ xs) k
 further h = record {
@@ -62,7 +57,9 @@ further h = record {
   number = h.number;
   declared = h.declared;
   numbered = h.numbered;
+  body = h.body;
   defines = h.defines;
+  taken = h.taken;
   identity = h.identity;
   counted = h.counted;
 }

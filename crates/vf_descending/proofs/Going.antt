@@ -24,6 +24,7 @@ use Rattle.vf_keeping.specs.Recursion.{BodyGoesDown}
 use Rattle.vf_keeping.specs.Units.{GoDown}
 use Rattle.vf_descending.specs.Ranks.{HavePlainNames, ranks_of}
 use Rattle.vf_descending.proofs.Bodies.{body_down}
+use Rattle.vf_keeping.proofs.Taken.{body_down_taken, either_taken}
 use Rattle.vf_descending.proofs.Definitions.{item_accepted, of_item}
 use Rattle.vf_descending.proofs.Lists.{get_taken, none_some, number_taken, one_name, some_same}
 use Rattle.vf_descending.proofs.Ranks.{rank_is}
@@ -114,5 +115,7 @@ go_down s paths xs fs plain many accepted have k there =
     let counted : length (map (λ (g : GhostParameter). g.name.text) w.parameters) ≡ k.parameters = length-map w.parameters (λ (g : GhostParameter). g.name.text) ∙ sym h.counted in
     subst (λ (i : Identity). BodyGoesDown (ranks_of s) i k.parameters k.body) (sym h.identity)
     (subst (λ (m : ℕ). BodyGoesDown (ranks_of s) (identity_at s paths w.name) m k.body) counted
-    (body_down (ranks_of s) (identity_at s paths w.name) w.name paths w.parameters (within_fixpoint (up_to w.name s) w.parameters h.declared.arguments) aligned refl (fixpoints_earlier s plain paths w h.number h.declared h.numbered as_many) h.number w.body k.body (constructors_of xs w.parameters w.body) h.defines
-    (item_accepted xs accepted h.item w h.among h.is)))
+    (either_taken (BodyGoesDown (ranks_of s) (identity_at s paths w.name) (length (map (λ (g : GhostParameter). g.name.text) w.parameters))) h.body k.body h.taken
+    (body_down (ranks_of s) (identity_at s paths w.name) w.name paths w.parameters (within_fixpoint (up_to w.name s) w.parameters h.declared.arguments) aligned refl (fixpoints_earlier s plain paths w h.number h.declared h.numbered as_many) h.number w.body h.body (constructors_of xs w.parameters w.body) h.defines
+    (item_accepted xs accepted h.item w h.among h.is))
+    (body_down_taken (ranks_of s) (identity_at s paths w.name) (length (map (λ (g : GhostParameter). g.name.text) w.parameters)) h.body)))

@@ -25,6 +25,7 @@ use Rattle.vf_keeping.specs.Bodies.{HasEachCase, declared_at}
 use Rattle.vf_descending.specs.Laws.{AcceptedFixpointsGoDown, AcceptedFixpointsHaveEachCase, IsAccepted}
 use Rattle.vf_descending.specs.Ranks.{name_in}
 use Rattle.vf_descending.proofs.Completing.{each_case}
+use Rattle.vf_keeping.proofs.Taken.{each_case_taken, either_taken}
 use Rattle.vf_descending.proofs.Definitions.{IsOfItem, item_accepted, of_item}
 use Rattle.vf_descending.proofs.Going.{AreAsMany, go_down, parameters_aligned}
 use Rattle.vf_descending.proofs.Items.{AllStand, unit_stands}
@@ -107,10 +108,12 @@ module _ (f : Files) (paths : List (List ℕ)) (xs : List Item) (s : Scope) (fs 
 
     has_each_case : HasEachCase (declared_at s paths) h.declared.arguments k.body
     has_each_case =
-        each_case (declared_at s paths) (level s) xs h.written.parameters h.declared.arguments (stands.heads h.item h.among h.written h.is h.number h.declared h.numbered)
+        either_taken (HasEachCase (declared_at s paths) h.declared.arguments) h.body k.body h.taken
+        (each_case (declared_at s paths) (level s) xs h.written.parameters h.declared.arguments (stands.heads h.item h.among h.written h.is h.number h.declared h.numbered)
         (λ z y d c p q e. stands.stands.named y z d c p q e) (λ i c d. declares_means s paths i (ghosts.Constructor c) d)
-        inside (parameters_aligned (without_locals s) accepted.plain paths h.written h.number h.declared h.numbered (as_many h.item h.written h.number h.declared h.among h.is h.numbered)) refl refl paths right h.number h.written.body k.body h.written.name h.defines
-        (item_accepted xs accepted.kept h.item h.written h.among h.is)
+        inside (parameters_aligned (without_locals s) accepted.plain paths h.written h.number h.declared h.numbered (as_many h.item h.written h.number h.declared h.among h.is h.numbered)) refl refl paths right h.number h.written.body h.body h.written.name h.defines
+        (item_accepted xs accepted.kept h.item h.written h.among h.is))
+        (each_case_taken (declared_at s paths) h.declared.arguments h.body)
 
 pub accepted_fixpoints_go_down : AcceptedFixpointsGoDown
 accepted_fixpoints_go_down f paths xs s fs accepted = go_down (without_locals s) paths xs fs accepted.plain (as_many f paths xs s fs accepted) accepted.kept accepted.have

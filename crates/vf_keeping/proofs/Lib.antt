@@ -8,6 +8,7 @@ pub mod Patterns
 pub mod Fronts
 pub mod Bodies
 pub mod Recursion
+pub mod Taken
 pub mod Units
 pub mod Numbers
 pub mod Applied

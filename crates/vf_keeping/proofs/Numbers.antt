@@ -26,7 +26,7 @@ use Rattle.vf_definitions.specs.declared.fixpoint.Fixpoint as definitions
 use Rattle.vf_defining.specs.UpTo.{up_to}
 use Rattle.vf_defining.specs.Bodies.{identity_at}
 use Rattle.vf_defining.specs.Fixpoints.{Defines}
-use Rattle.vf_defining.specs.Units.{HaveDefinitions, no_items, more_items, IsNumbered, ItemDefines, other_item, stray_item, fixpoint, Written, definition_of, kinds_of_sort, within_fixpoint}
+use Rattle.vf_defining.specs.Units.{HaveDefinitions, no_items, more_items, IsNumbered, ItemDefines, other_item, stray_item, fixpoint, Written, of_integers, within_fixpoint}
 use Rattle.vf_worth.specs.Declares.{Declares}
 use Rattle.vf_worth.specs.Worth.{Sets, passing}
 use Rattle.vf_worth.proofs.Operating.{first_of, second_of}
@@ -36,7 +36,8 @@ use Rattle.vf_keeping.specs.Units.{EachIsWritten, IsWritten}
 use Rattle.vf_keeping.specs.Numbers.{BodyIsKinded, HeadIsKinded, NumbersKeepIn, NumbersKeepSorts, NumbersKeepValues, NumbersMeetDefinitions, TermIsKinded, TermsAreKinded, gives_integers, with_numbers}
 use Rattle.vf_keeping.proofs.Patterns.{meant_told}
 use Rattle.vf_keeping.proofs.Recursion.{same_fixpoint}
-use Rattle.vf_keeping.proofs.Units.{has_definition, in_first, in_mapped, in_second, own_kind, own_shown, own_there, unit_keeps_in}
+use Rattle.vf_keeping.proofs.Taken.{definition_of, one_of, own_kind, own_shown, own_there}
+use Rattle.vf_keeping.proofs.Units.{has_definition, in_first, in_second, unit_keeps_in}
 
 -- ---- values
 module _ (fs : List definitions.Fixpoint) (i : Interpretation) where
@@ -147,29 +148,14 @@ apart [] ys a c = inr c
 apart (x ∷ xs) ys a (zero, l, is) = inl (zero, omega arith, is)
 apart (x ∷ xs) ys a (suc k, l, is) = ⊎_elim (λ p. inl (suc p.0, omega (arith, p.1), p.2)) (λ q. inr q) (apart xs ys a (k, omega (arith, l), is))
 
-mapped_from : {A B : Type 0} (f : A → B) (xs : List A) (b : B) → Contains (map f xs) b → (a : A) × Contains xs a × (b ≡ f a)
-mapped_from f [] b (k, l, is) = absurd (omega (arith, l))
-mapped_from f (x ∷ xs) b (zero, l, is) = (x, (zero, omega arith, refl), sym is)
-mapped_from f (x ∷ xs) b (suc k, l, is) = let r = mapped_from f xs b (k, omega (arith, l), is) in (r.0, (suc r.1.0, omega (arith, r.1.1), r.1.2), r.2)
-
-integers_alone : (t : Sort) → kind_of_sort t ≡ Integer → (k : code.Kind) → Contains (kinds_of_sort t) k → shown_kind k ≡ Integer
-integers_alone (sort heads.Int ts) e k (zero, l, is) = ap shown_kind (sym is)
-integers_alone (sort heads.Int ts) e k (suc j, l, is) = absurd (omega (arith, l))
-integers_alone (sort heads.Bool ts) e k c = absurd cc
-integers_alone (sort (heads.Pointer w) ts) e k c = absurd cc
-integers_alone (sort heads.Real ts) e k c = absurd cc
-integers_alone (sort heads.Any ts) e k c = absurd cc
-integers_alone (sort (heads.Parameter i) ts) e k c = absurd cc
-integers_alone (sort (heads.Unknown u) ts) e k c = absurd cc
-integers_alone (sort (heads.Datatype d) ts) e k c = absurd cc
-integers_alone (sort heads.Predicate ts) e k c = absurd cc
-
--- a definition is that of a declared fixpoint, which has one of its result's kind with the same body
+-- a definition is that of a declared fixpoint, which has one of its result's kind; its body is as it is read, or taken as numbers
 pub record IsFrom (s : Scope) (paths : List (List ℕ)) (all : List definitions.Fixpoint) (x : definitions.Fixpoint) : Type 0 where
   pub written : Written
   pub number : ℕ
   pub declared : declaration.Fixpoint
-  pub defines : Defines (within_fixpoint (up_to written.name s) written.parameters declared.arguments) paths number written.body x.body
+  pub body : Body
+  pub defines : Defines (within_fixpoint (up_to written.name s) written.parameters declared.arguments) paths number written.body body
+  pub taken : (x.body ≡ body) ⊎ (x.body ≡ of_integers body)
   pub declares : Declares (declared_at s paths) x.identity (ghosts.Fixpoint declared)
   pub integers : kind_of_sort declared.result ≡ Integer → shown_kind x.kind ≡ Integer
   pub own : definitions.Fixpoint
@@ -186,27 +172,30 @@ item_from : (s : Scope) (paths : List (List ℕ)) (item : Item) (all : List defi
 item_from s paths item all (other_item e) x (k, l, is) = absurd (omega (arith, l))
 item_from s paths item all (stray_item e stray) x (k, l, is) = absurd (omega (arith, l))
 item_from s paths item all (fixpoint {w} {n} {f} {b} e numbered defines) x there =
-    let r = mapped_from (definition_of s paths w b) (kinds_of_sort f.result) x there in
-    subst (IsFrom s paths (map (definition_of s paths w b) (kinds_of_sort f.result))) (sym r.2)
-    (record {
+    let o = one_of s paths w b f.result x there in
+    record {
       written = w;
       number = n;
       declared = f;
+      body = b;
       defines = defines;
-      declares = numbered_declares s paths w n f numbered;
-      integers = λ q. integers_alone f.result q r.0 r.1;
+      taken = o.taken;
+      declares = subst (λ (z : Identity). Declares (declared_at s paths) z (ghosts.Fixpoint f)) (sym o.identity) (numbered_declares s paths w n f numbered);
+      integers = o.integers;
       own = definition_of s paths w b (own_kind f.result);
-      own_among = in_mapped (definition_of s paths w b) (kinds_of_sort f.result) (own_kind f.result) (own_there f.result);
-      own_identity_is = refl;
+      own_among = own_there s paths w b f.result;
+      own_identity_is = sym o.identity;
       own_kind_is = own_shown f.result;
-    })
+    }
 
 among_more : (s : Scope) (paths : List (List ℕ)) (all others : List definitions.Fixpoint) (x : definitions.Fixpoint) → ((y : definitions.Fixpoint) → Contains all y → Contains others y) → IsFrom s paths all x → IsFrom s paths others x
 among_more s paths all others x f h = record {
   written = h.written;
   number = h.number;
   declared = h.declared;
+  body = h.body;
   defines = h.defines;
+  taken = h.taken;
   declares = h.declares;
   integers = h.integers;
   own = h.own;

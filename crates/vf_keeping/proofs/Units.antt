@@ -20,13 +20,14 @@ use Rattle.vf_definitions.specs.declared.fixpoint.Body.{Body}
 use Rattle.vf_definitions.specs.declared.fixpoint.Fixpoint as definitions
 use Rattle.vf_defining.specs.UpTo.{up_to}
 use Rattle.vf_defining.specs.Fixpoints.{Defines}
-use Rattle.vf_defining.specs.Units.{HaveDefinitions, more_items, IsNumbered, ItemDefines, other_item, stray_item, fixpoint, Written, definition_of, kinds_of_sort, within_fixpoint, written_in}
+use Rattle.vf_defining.specs.Units.{HaveDefinitions, more_items, IsNumbered, ItemDefines, other_item, stray_item, fixpoint, Written, definitions_of, within_fixpoint, written_in}
 use Rattle.vf_worth.specs.Declares.{Declares}
 use Rattle.vf_worth.specs.Worth.{Sets, passing}
 use Rattle.vf_keeping.specs.Bodies.{declared_at}
 use Rattle.vf_keeping.specs.Recursion.{BodyGoesDown, IsKept, Ranks}
 use Rattle.vf_keeping.specs.Units.{EachIsCovered, GoDown, HaveEachCase, IsWritten, UnitKeepsIn, UnitsKeepSorts}
 use Rattle.vf_keeping.proofs.Recursion.{kept_in}
+use Rattle.vf_keeping.proofs.Taken.{definition_of, own_kind, own_shown, own_there}
 
 -- ---- lists
 pub in_first : {A : Type 0} (xs ys : List A) (a : A) → Contains xs a → Contains (xs ++ ys) a
@@ -37,39 +38,6 @@ in_first (x ∷ xs) ys a (suc k, l, is) = let r = in_first xs ys a (k, omega (ar
 pub in_second : {A : Type 0} (xs ys : List A) (a : A) → Contains ys a → Contains (xs ++ ys) a
 in_second [] ys a c = c
 in_second (x ∷ xs) ys a c = let r = in_second xs ys a c in (suc r.0, omega (arith, r.1), r.2)
-
-pub in_mapped : {A B : Type 0} (f : A → B) (xs : List A) (a : A) → Contains xs a → Contains (map f xs) (f a)
-in_mapped f [] a (k, l, is) = absurd (omega (arith, l))
-in_mapped f (x ∷ xs) a (zero, l, is) = (zero, omega arith, ap f is)
-in_mapped f (x ∷ xs) a (suc k, l, is) = let r = in_mapped f xs a (k, omega (arith, l), is) in (suc r.0, omega (arith, r.1), r.2)
-
--- ---- kinds
--- the kind of a sort, as the code has it
-abbrev pub own_kind : Sort → Kind
-own_kind (sort heads.Int ts) = kinds.Integer
-own_kind t = kinds.Other
-
-pub own_shown : (t : Sort) → shown_kind (own_kind t) ≡ kind_of_sort t
-own_shown (sort heads.Int ts) = refl
-own_shown (sort heads.Bool ts) = refl
-own_shown (sort (heads.Pointer w) ts) = refl
-own_shown (sort heads.Real ts) = refl
-own_shown (sort heads.Any ts) = refl
-own_shown (sort (heads.Parameter i) ts) = refl
-own_shown (sort (heads.Unknown u) ts) = refl
-own_shown (sort (heads.Datatype d) ts) = refl
-own_shown (sort heads.Predicate ts) = refl
-
-pub own_there : (t : Sort) → Contains (kinds_of_sort t) (own_kind t)
-own_there (sort heads.Int ts) = (zero, omega arith, refl)
-own_there (sort heads.Bool ts) = (zero, omega arith, refl)
-own_there (sort (heads.Pointer w) ts) = (zero, omega arith, refl)
-own_there (sort heads.Real ts) = (zero, omega arith, refl)
-own_there (sort heads.Any ts) = (zero, omega arith, refl)
-own_there (sort (heads.Parameter i) ts) = (zero, omega arith, refl)
-own_there (sort (heads.Unknown u) ts) = (zero, omega arith, refl)
-own_there (sort (heads.Datatype d) ts) = (zero, omega arith, refl)
-own_there (sort heads.Predicate ts) = (zero, omega arith, refl)
 
 -- ---- the definitions of an item
 pub record HasItem (s : Scope) (paths : List (List ℕ)) (item : Item) (fs : List definitions.Fixpoint) : Type 0 where
@@ -101,13 +69,13 @@ pub record HasDefinition (s : Scope) (paths : List (List ℕ)) (items : List Ite
 
 module _ (s : Scope) (paths : List (List ℕ)) (items : List Item) (fs : List definitions.Fixpoint) (c : Identity) (x : declaration.Fixpoint) (w : IsWritten s paths items c x) where
   -- the body that the item has is that of the fixpoint
-  written_has : (v : Written) → v ≡ w.written → (n : ℕ) (f : declaration.Fixpoint) → IsNumbered s v n f → (b : Body) → Defines (within_fixpoint (up_to v.name s) v.parameters f.arguments) paths n v.body b → ((k : definitions.Fixpoint) → Contains (map (definition_of s paths v b) (kinds_of_sort f.result)) k → Contains fs k) → HasDefinition s paths items fs c x w
+  written_has : (v : Written) → v ≡ w.written → (n : ℕ) (f : declaration.Fixpoint) → IsNumbered s v n f → (b : Body) → Defines (within_fixpoint (up_to v.name s) v.parameters f.arguments) paths n v.body b → ((k : definitions.Fixpoint) → Contains (definitions_of s paths v b f.result) k → Contains fs k) → HasDefinition s paths items fs c x w
   written_has v same n f numbered b defines among =
       let one : n ≡ w.number = same_number (sym numbered.means ∙ ap (λ (z : Written). declaration_of s z.name.text z.name.place.file) same ∙ (w.numbered).means) in
       let two : f ≡ x = same_fixpoint (sym numbered.is ∙ ap (ghost_of s) one ∙ (w.numbered).is) in
       let at_written = subst (λ (z : Written). Defines (within_fixpoint (up_to z.name s) z.parameters f.arguments) paths n z.body b) same defines in
       let at_number = subst (λ (m : ℕ). Defines (within_fixpoint (up_to (w.written).name s) (w.written).parameters f.arguments) paths m (w.written).body b) one at_written in
-      let at = subst (λ (z : Written). Contains fs (definition_of s paths z b (own_kind f.result))) same (among (definition_of s paths v b (own_kind f.result)) (in_mapped (definition_of s paths v b) (kinds_of_sort f.result) (own_kind f.result) (own_there f.result))) in
+      let at = subst (λ (z : Written). Contains fs (definition_of s paths z b (own_kind f.result))) same (among (definition_of s paths v b (own_kind f.result)) (own_there s paths v b f.result)) in
       record {
         body = b;
         defines = subst (λ (y : declaration.Fixpoint). Defines (within_fixpoint (up_to (w.written).name s) (w.written).parameters y.arguments) paths w.number (w.written).body b) two at_number;
