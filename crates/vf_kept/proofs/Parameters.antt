@@ -1,9 +1,13 @@
--- No interpretation gives a fixpoint with a result of a type parameter the values of its body as an integer too.
-use Rattle.std.proofs.Common.{refl, [], ◌∷◌, Ok, arith}
+-- Where a fixpoint has the values of its body, its definition for integers has those of the body taken as numbers.
+use Rattle.std.proofs.Common.{◌≡◌, refl, sym, ap, subst, ◌∙◌, ℕ, zero, suc, List, [], ◌∷◌, Ok, arith}
 use Rattle.std.specs.Prelude.{codes}
 use Rattle.vf_model.specs.Values.{Values, none, more}
 use Rattle.vf_model.specs.Values as values
+use Rattle.vf_meaning.specs.Valuations.{appended, of_arguments}
 use Rattle.vf_meaning.specs.GhostValues.{Interpretation}
+use Rattle.vf_closure.specs.Terms.{Integer}
+use Rattle.vf_closure.specs.Values.{of_kind, value}
+use Rattle.vf_normal.proofs.Worth.{as_integer_value}
 use Rattle.vf_formula.specs.declared.head.Kind.TheVariants as kinds
 use Rattle.vf_sorts.specs.declared.sort.Head.TheVariants as heads
 use Rattle.vf_sorts.specs.Sorts.{Sort}
@@ -30,12 +34,16 @@ use Rattle.vf_resolve.specs.Beginning.{beginning}
 use Rattle.vf_resolve.specs.Units.{ItemsCome}
 use Rattle.vf_definitions.specs.Laws.{MeetsBody, MeetsDefinitions}
 use Rattle.vf_definitions.specs.declared.fixpoint.Body.TheVariants as bodies
+use Rattle.vf_definitions.specs.declared.fixpoint.Body.TheVariants.{Returns, Switches}
+use Rattle.vf_definitions.specs.declared.fixpoint.Case.{Case}
+use Rattle.vf_definitions.specs.declared.fixpoint.Fixpoint as definitions
 use Rattle.vf_defining.specs.Fixpoints as defined
 use Rattle.vf_defining.specs.Symbols.{without_locals}
 use Rattle.vf_defining.specs.Units.{HaveDefinitions, fixpoint, more_items, no_items, within_fixpoint}
 use Rattle.vf_defining.specs.UpTo.{up_to}
+use Rattle.vf_keeping.proofs.Taken.{case_taken}
 use Rattle.vf_descending.specs.Example.{here, list_paths, named, one_file}
-use Rattle.vf_kept.specs.Parameters.{ParametersAreNeverMet, first_symbol, itself_text, of_parameter, same, same_definition, same_definitions, same_unit}
+use Rattle.vf_kept.specs.Parameters.{IntegersAreMet, ParametersAreMet, first_symbol, itself_text, of_parameter, same, same_definition, same_definitions, same_interpretation, same_unit}
 
 -- ---- what is declared
 -- the sort that `t` is in a text with the type parameter `t`
@@ -81,13 +89,25 @@ have =
     (fixpoint {w = record { name = named (codes "same"); parameters = of_parameter ∷ []; body = itself_text }} {n = 0} {f = same_declared} {b = bodies.Returns first_symbol} refl (record { means = refl; is = refl }) (defined.value {k = []} given))
     no_items
 
--- ---- no values
--- at the null pointer it gives a number by one of them, and the pointer by the other
-never : (i : Interpretation) → MeetsDefinitions i same_definitions → ⊥
-never i meets =
-    let own : MeetsBody i (same_definition kinds.Integer) (bodies.Returns first_symbol) = meets (same_definition kinds.Integer) (1, omega arith, refl) in
-    let e = own (more values.Null none) refl in
-    absurd cc
+-- ---- values
+pub integers_are_met : IntegersAreMet
+integers_are_met i c n (Returns t) h = λ vs long. ap (of_kind Integer) (h vs long) ∙ sym (as_integer_value i (of_arguments vs) t)
+integers_are_met i c n (Switches k cases) h = λ vs us g y long at there names.
+    let x = case_taken cases g y there in
+    ap (of_kind Integer) (h vs us g x.0 long at x.1 (names ∙ ap (λ (z : Case). z.names) (sym x.2)))
+    ∙ (sym (as_integer_value i (of_arguments (appended vs us)) x.0.result) ∙ ap (λ (z : Case). value i (of_arguments (appended vs us)) z.result) x.2)
 
-pub parameters_are_never_met : ParametersAreNeverMet
-parameters_are_never_met = record { whole = whole; come = come; unmarked = refl; kept = refl; have = have; never = never }
+own_meets : MeetsBody same_interpretation (same_definition kinds.Other (Returns first_symbol)) (Returns first_symbol)
+own_meets vs long = refl
+
+meets : MeetsDefinitions same_interpretation same_definitions
+meets k (zero, l, is) = subst (λ (d : definitions.Fixpoint). MeetsBody same_interpretation d d.body) is own_meets
+meets k (suc zero, l, is) = subst (λ (d : definitions.Fixpoint). MeetsBody same_interpretation d d.body) is (integers_are_met same_interpretation (codes "one.c#same") 1 (Returns first_symbol) own_meets)
+meets k (suc (suc j), l, is) = absurd (omega (arith, l))
+
+-- at the null pointer it would be a number
+never_alike : (i : Interpretation) → MeetsBody i (same_definition kinds.Other (Returns first_symbol)) (Returns first_symbol) → MeetsBody i (same_definition kinds.Integer (Returns first_symbol)) (Returns first_symbol) → ⊥
+never_alike i own taken = let e = taken (more values.Null none) refl in absurd cc
+
+pub parameters_are_met : ParametersAreMet
+parameters_are_met = record { whole = whole; accepted = record { come = come; unmarked = refl; kept = refl; have = have; meets = meets }; never_alike = never_alike }

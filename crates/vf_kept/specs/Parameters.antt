@@ -1,6 +1,8 @@
--- A unit with a fixpoint whose result is of a type parameter: no interpretation gives its definitions the values of the bodies.
-use Rattle.std.specs.Prelude.{◌≡◌, false, List, [], ◌∷◌, None, Ok, codes}
+-- Fixpoints whose results are of type parameters: both of their definitions can have the values of the bodies.
+use Rattle.std.specs.Prelude.{ℕ, false, List, [], ◌∷◌, codes}
+use Rattle.vf_tree.specs.Core.{Identity}
 use Rattle.vf_meaning.specs.Ghost.{Numbered}
+use Rattle.vf_meaning.specs.Valuations.{value_at}
 use Rattle.vf_meaning.specs.GhostValues.{Interpretation}
 use Rattle.vf_closure.specs.Terms.{Other, Symbol, Term, term, no_terms}
 use Rattle.vf_formula.specs.declared.head.Kind.{Kind}
@@ -15,16 +17,13 @@ use Rattle.vf_syntax.specs.GhostExprTree as tree
 use Rattle.vf_syntax.specs.SortTree.{SortTree, no_sort}
 use Rattle.vf_syntax.specs.SortTree as sorts
 use Rattle.vf_declared.specs.declared.scope.Scope.{Scope}
-use Rattle.vf_resolve.specs.Beginning.{beginning}
-use Rattle.vf_resolve.specs.Units.{ItemsCome}
-use Rattle.vf_recursion.specs.Faults.{first_fault}
-use Rattle.vf_definitions.specs.Laws.{MeetsDefinitions}
+use Rattle.vf_definitions.specs.Laws.{MeetsBody}
+use Rattle.vf_definitions.specs.declared.fixpoint.Body.{Body}
 use Rattle.vf_definitions.specs.declared.fixpoint.Body.TheVariants.{Returns}
 use Rattle.vf_definitions.specs.declared.fixpoint.Fixpoint as definitions
-use Rattle.vf_defining.specs.Symbols.{without_locals}
-use Rattle.vf_defining.specs.Units.{HaveDefinitions}
-use Rattle.vf_standing.specs.Names.{AreUnmarked}
+use Rattle.vf_defining.specs.Units.{of_integers}
 use Rattle.vf_descending.specs.Example.{here, list_paths, named, one_file}
+use Rattle.vf_kept.specs.Accepted.{IsAcceptedWith}
 
 -- ---- the text
 -- `t`
@@ -52,18 +51,25 @@ same_unit = same ∷ []
 abbrev pub first_symbol : Term
 first_symbol = term (Symbol Other (Numbered 0)) no_terms
 
-abbrev pub same_definition : Kind → definitions.Fixpoint
-same_definition k = record { kind = k; identity = codes "one.c#same"; parameters = 1; body = Returns first_symbol }
+-- a definition of a kind with a body
+abbrev pub same_definition : Kind → Body → definitions.Fixpoint
+same_definition k b = record { kind = k; identity = codes "one.c#same"; parameters = 1; body = b }
 
--- it has one for each kind of its applications
+-- it has one for each kind of its applications, and as an integer it gives the number of its parameter
 abbrev pub same_definitions : List definitions.Fixpoint
-same_definitions = same_definition kinds.Other ∷ same_definition kinds.Integer ∷ []
+same_definitions = same_definition kinds.Other (Returns first_symbol) ∷ same_definition kinds.Integer (of_integers (Returns first_symbol)) ∷ []
 
--- the unit is accepted with these definitions, and no interpretation gives them the values of the bodies: as an integer, what the fixpoint gives is a number at each value, and it is the value itself
-pub record ParametersAreNeverMet : Type 0 where
+-- the fixpoint gives its argument
+abbrev pub same_interpretation : Interpretation
+same_interpretation = record { claims = λ g t. false; fixpoint = λ c vs. value_at vs 0 }
+
+-- the unit is accepted with these definitions, and an interpretation gives both the values of their bodies; no interpretation would do so if both had the body as it is, since at the null pointer a number is no pointer
+pub record ParametersAreMet : Type 0 where
   pub whole : Scope
-  pub come : ItemsCome same_unit (beginning one_file same_unit) (Ok whole)
-  pub unmarked : AreUnmarked same_unit
-  pub kept : first_fault same_unit ≡ None
-  pub have : HaveDefinitions (without_locals whole) list_paths same_unit same_definitions
-  pub never : (i : Interpretation) → MeetsDefinitions i same_definitions → ⊥
+  pub accepted : IsAcceptedWith one_file list_paths same_unit whole same_definitions same_interpretation
+  pub never_alike : (i : Interpretation) → MeetsBody i (same_definition kinds.Other (Returns first_symbol)) (Returns first_symbol) → MeetsBody i (same_definition kinds.Integer (Returns first_symbol)) (Returns first_symbol) → ⊥
+
+-- ---- in general
+-- where a fixpoint has the values of its body, its definition for integers has those of the body taken as numbers
+abbrev pub IntegersAreMet : Type 0
+IntegersAreMet = (i : Interpretation) (c : Identity) (n : ℕ) (b : Body) → MeetsBody i (record { kind = kinds.Other; identity = c; parameters = n; body = b }) b → MeetsBody i (record { kind = kinds.Integer; identity = c; parameters = n; body = of_integers b }) (of_integers b)

@@ -2,7 +2,7 @@
 
 ghost use Rattle.vf_kept.specs.Accepted.{AcceptedFixpointsKeepSorts, AcceptedUnitsDefine, AcceptedValuesFollowSorting};
 ghost use Rattle.vf_kept.specs.Example.{RestsAreLists};
-ghost use Rattle.vf_kept.specs.Parameters.{ParametersAreNeverMet};
+ghost use Rattle.vf_kept.specs.Parameters.{IntegersAreMet, ParametersAreMet};
 
 /// A unit that is accepted, in whose names no `#` stands, meets all that is asked of units, where an interpretation gives
 /// the definitions of its items the values of their bodies.
@@ -27,8 +27,13 @@ pub fn rests_are_lists()
     ensures { RestsAreLists }
 {}
 
-/// No interpretation gives a fixpoint with a result of a type parameter the values of its body: it has a definition for
-/// integers too, whose body is not of integers. So these laws say nothing of units that have one.
-pub fn parameters_are_never_met()
-    ensures { ParametersAreNeverMet }
+/// Where a fixpoint has the values of its body, its definition for integers has those of the body taken as numbers.
+pub fn integers_are_met()
+    ensures { IntegersAreMet }
+{}
+
+/// So an interpretation gives both definitions of a fixpoint with a result of a type parameter the values of their bodies,
+/// which none would if both had the same body.
+pub fn parameters_are_met()
+    ensures { ParametersAreMet }
 {}
