@@ -3,7 +3,7 @@
 use crate::units::{one_file, parsed};
 use std::alloc::Global;
 use std::test::Fail;
-use vf_base::{Memory, Text};
+use vf_base::{Memory, Sequence, Text};
 use vf_core::{Comparison, Operator};
 use vf_defining::definitions;
 use vf_definitions::{Body, Case, Definitions, Fixpoint};
@@ -174,17 +174,31 @@ fn is_case(case: &Case, constructor: &str, names: usize, term: &Term) -> bool {
         && case.result.same(term)
 }
 
-/// Whether a fixpoint returns its second parameter for `nil`, and the first name of the case for `cons`.
-fn is_head(alloc: Global, fixpoint: &Fixpoint) -> bool {
+/// The symbol with a number, as a term of a kind: as an integer it is the sum of the symbol alone.
+fn numbered(alloc: Global, kind: Kind, number: u64) -> Result<Term, Memory> {
+    let symbol = Term::leaf(alloc, Head::Symbol(Kind::Other, Name::Numbered(number)));
+    match kind {
+        Kind::Other => Ok(symbol),
+        Kind::Integer => {
+            let mut factors = Sequence::new(alloc);
+            factors.push(1)?;
+            Term::with_one(alloc, Head::Sum(factors), symbol)
+        }
+    }
+}
+
+/// Whether a fixpoint returns, as a term of its kind, its second parameter for `nil`, and the first name of the case for
+/// `cons`.
+fn is_head(alloc: Global, fixpoint: &Fixpoint) -> Result<bool, Memory> {
     let Body::Switches(0, cases) = &fixpoint.body else {
-        return false;
+        return Ok(false);
     };
     let [nil, cons] = cases.as_slice() else {
-        return false;
+        return Ok(false);
     };
-    let second = Term::leaf(alloc, Head::Symbol(Kind::Other, Name::Numbered(1)));
-    let third = Term::leaf(alloc, Head::Symbol(Kind::Other, Name::Numbered(2)));
-    is_case(nil, "one.c#nil", 0, &second) && is_case(cons, "one.c#cons", 2, &third)
+    let second = numbered(alloc, fixpoint.kind, 1)?;
+    let third = numbered(alloc, fixpoint.kind, 2)?;
+    Ok(is_case(nil, "one.c#nil", 0, &second) && is_case(cons, "one.c#cons", 2, &third))
 }
 
 /// Whether a fixpoint returns a term.
@@ -202,8 +216,8 @@ fn fixpoints_are_defined(rt: HostRuntime) -> Result<(), Fail> {
     let [one, other, last] = all.as_slice() else {
         return Err(Fail::from("not three"));
     };
-    assert!(rt; is_named(one, Kind::Other, "one.c#head", 2) && is_head(alloc, one));
-    assert!(rt; is_named(other, Kind::Integer, "one.c#head", 2) && is_head(alloc, other));
+    assert!(rt; is_named(one, Kind::Other, "one.c#head", 2) && is_head(alloc, one)?);
+    assert!(rt; is_named(other, Kind::Integer, "one.c#head", 2) && is_head(alloc, other)?);
     assert!(rt; is_named(last, Kind::Integer, "one.c#first", 1) && returns(last, &first(alloc)?));
     Ok(())
 }

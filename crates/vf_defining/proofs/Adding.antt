@@ -1,5 +1,5 @@
 -- The definitions of items, from the answers for their parts.
-use Rattle.std.proofs.Common.{◌≡◌, ℕ, ◌+◌, ◌≤◌, length, drop, slice_get, List, [], ◌∷◌, ◌++◌, map, Result, Ok, Err, Some, None, refl, sym, subst, ap, ◌∙◌}
+use Rattle.std.proofs.Common.{◌≡◌, ℕ, ◌+◌, ◌≤◌, length, drop, slice_get, List, [], ◌∷◌, ◌++◌, Result, Ok, Err, Some, None, refl, sym, subst, ap, ◌∙◌}
 use Rattle.vf_base.specs.declared.refusal.Refusal.{Refusal}
 use Rattle.vf_base.specs.declared.refusal.RuleFault.{RuleFault}
 use Rattle.vf_base.specs.declared.refusal.RuleFault.TheVariants as faults

@@ -1,5 +1,5 @@
 -- The definitions of items are those of fixpoints among them, none of which is refused where no item is.
-use Rattle.std.proofs.Common.{◌≡◌, refl, sym, subst, ◌⊎◌, inl, inr, ⊎_elim, ℕ, zero, suc, List, [], ◌∷◌, ◌++◌, length, map, Some, None, arith}
+use Rattle.std.proofs.Common.{◌≡◌, refl, subst, ◌⊎◌, inl, inr, ⊎_elim, ℕ, zero, suc, List, [], ◌∷◌, ◌++◌, length, Some, None, arith}
 use Rattle.std.specs.Prelude.{Contains}
 use Rattle.vf_syntax.specs.declared.item.GhostForm.{GhostForm}
 use Rattle.vf_syntax.specs.declared.item.GhostForm.TheVariants as forms

@@ -104,12 +104,14 @@ front_integers n s paths fs integers c e x is = integers c e x (front_declares n
 
 pub definitions_are_kinded : DefinitionsAreKinded
 definitions_are_kinded s paths items fs have well =
-    let integers = of_integers s paths items fs have well in
-    (integers, λ k there.
-    let h = definition_from s paths items fs have k there in
-    either_taken (BodyIsKinded fs) h.body k.body h.taken
-    (body_kinded fs (within_fixpoint (up_to (h.written).name s) (h.written).parameters (h.declared).arguments) paths h.number (h.written).body h.body (front_integers (h.written).name s paths fs integers) h.defines)
-    (body_kinded_taken fs h.body))
+    let integers = of_integers s paths items fs have well in (
+      integers,
+      λ k there.
+          let h = definition_from s paths items fs have k there in
+          either_taken (BodyIsKinded fs) h.body k.body h.taken
+          (body_kinded fs (within_fixpoint (up_to (h.written).name s) (h.written).parameters (h.declared).arguments) paths h.number (h.written).body h.body (front_integers (h.written).name s paths fs integers) h.defines)
+          (body_kinded_taken fs h.body),
+    )
 
 pub defined_keep_in : (sets : Sets) → DefinedKeepIn sets
 defined_keep_in sets s paths items fs i r have meets well written covered cases down = numbers_keep_in sets s paths items fs i r have meets well written covered cases down (definitions_are_kinded s paths items fs have well).1

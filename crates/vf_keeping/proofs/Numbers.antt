@@ -1,5 +1,5 @@
 -- With numbers for fixpoints whose results are integers, terms have the same values and fixpoints keep sorts.
-use Rattle.std.proofs.Common.{◌≡◌, ◌⊎◌, inl, inr, ℕ, zero, suc, Bool, true, false, cond, not, List, [], ◌∷◌, ◌++◌, map, Option, Some, None, refl, sym, subst, ap, ap₂, ◌∙◌, ⊎_elim, arith}
+use Rattle.std.proofs.Common.{◌≡◌, ◌⊎◌, inl, inr, ℕ, zero, suc, Bool, true, false, cond, not, List, [], ◌∷◌, ◌++◌, Option, Some, None, refl, sym, subst, ap, ap₂, ◌∙◌, ⊎_elim, arith}
 use Rattle.std.specs.Prelude.{◌&&◌, Contains, is_some}
 use Rattle.vf_tree.specs.Core.{Identity}
 use Rattle.vf_model.specs.Values.{Value, Values, more, same_identity}
@@ -9,9 +9,6 @@ use Rattle.vf_meaning.proofs.FitSteps.{identities, own_identity}
 use Rattle.vf_closure.specs.Terms.{Kind, Integer, Other, Head, Symbol, Number, Truth, Null, Function, Constructor, Fixpoint, Claims, Predicate, Share, Sum, Plus, Arithmetic, Compare, Not, And, Or, Choose, PointerSum, Term, Terms, term, no_terms, and_term, kind_of}
 use Rattle.vf_closure.specs.Values.{all_values, applied, of_kind, value}
 use Rattle.vf_formula.specs.Heads.{shown_kind}
-use Rattle.vf_formula.specs.declared.head.Kind as code
-use Rattle.vf_sorts.specs.declared.sort.Head.TheVariants as heads
-use Rattle.vf_sorts.specs.Sorts.{Sort, sort}
 use Rattle.vf_syntax.specs.declared.item.Item.{Item}
 use Rattle.vf_declared.specs.declared.declaration.Fixpoint as declaration
 use Rattle.vf_declared.specs.declared.declaration.GhostDeclaration.TheVariants as ghosts

@@ -3,7 +3,7 @@ use Rattle.std.proofs.Common.{◌≡◌, refl, sym, ap, subst, ◌∙◌, ◌⊎
 use Rattle.std.specs.Prelude.{Contains}
 use Rattle.vf_tree.specs.Core.{Identity}
 use Rattle.vf_model.specs.Values.{same_identity}
-use Rattle.vf_closure.specs.Terms.{Kind, Integer, Other, Term, term, no_terms, kind_of}
+use Rattle.vf_closure.specs.Terms.{Kind, Integer, Other, Term, term, kind_of}
 use Rattle.vf_normal.specs.Sums.{as_integer, integer_by}
 use Rattle.vf_formula.specs.Heads.{shown_kind}
 use Rattle.vf_formula.specs.declared.head.Kind as code

@@ -1,20 +1,14 @@
 -- The fixpoints of a unit keep sorts.
-use Rattle.std.proofs.Common.{◌≡◌, ℕ, zero, suc, List, [], ◌∷◌, ◌++◌, length, map, Some, None, refl, sym, subst, ap, ◌∙◌, arith}
+use Rattle.std.proofs.Common.{◌≡◌, ℕ, zero, suc, List, [], ◌∷◌, ◌++◌, length, Some, None, refl, sym, subst, ap, ◌∙◌, arith}
 use Rattle.std.specs.Prelude.{Contains}
 use Rattle.vf_tree.specs.Core.{Identity}
 use Rattle.vf_meaning.specs.GhostValues.{Interpretation}
-use Rattle.vf_formula.specs.Heads.{shown_kind}
-use Rattle.vf_formula.specs.declared.head.Kind.{Kind}
-use Rattle.vf_formula.specs.declared.head.Kind.TheVariants as kinds
-use Rattle.vf_sorts.specs.declared.sort.Head.TheVariants as heads
-use Rattle.vf_sorts.specs.Sorts.{Sort, sort}
 use Rattle.vf_syntax.specs.declared.item.Item.{Item}
 use Rattle.vf_declared.specs.declared.declaration.Fixpoint as declaration
 use Rattle.vf_declared.specs.declared.declaration.GhostDeclaration.TheVariants as ghosts
 use Rattle.vf_declared.specs.declared.declaration.Meaning.TheVariants as meanings
 use Rattle.vf_declared.specs.declared.scope.Scope.{Scope}
 use Rattle.vf_declared.specs.Scopes.{declaration_of, ghost_of}
-use Rattle.vf_terms.specs.Settings.{kind_of_sort}
 use Rattle.vf_definitions.specs.Laws.{MeetsDefinitions}
 use Rattle.vf_definitions.specs.declared.fixpoint.Body.{Body}
 use Rattle.vf_definitions.specs.declared.fixpoint.Fixpoint as definitions

@@ -1,5 +1,5 @@
 -- Where a fixpoint has the values of its body, its definition for integers has those of the body taken as numbers.
-use Rattle.std.proofs.Common.{◌≡◌, refl, sym, ap, subst, ◌∙◌, ℕ, zero, suc, List, [], ◌∷◌, Ok, arith}
+use Rattle.std.proofs.Common.{refl, sym, ap, subst, ◌∙◌, zero, suc, [], ◌∷◌, Ok, arith}
 use Rattle.std.specs.Prelude.{codes}
 use Rattle.vf_model.specs.Values.{Values, none, more}
 use Rattle.vf_model.specs.Values as values

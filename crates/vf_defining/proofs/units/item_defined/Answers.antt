@@ -1,4 +1,4 @@
-use Rattle.std.proofs.Common.{rules, ◌≡◌, ◌++◌, ℕ, map, Err, sym, subst, ap, ◌∙◌}
+use Rattle.std.proofs.Common.{rules, ◌≡◌, ◌++◌, ℕ, Err, sym, subst, ap, ◌∙◌}
 use Rattle.vf_declared.specs.declared.declaration.Fixpoint as declared
 use Rattle.vf_declared.specs.declared.scope.Scope.{Scope}
 use Rattle.vf_binding.specs.Bound.{with_names}
