@@ -6,7 +6,7 @@ use std::test::Fail;
 /// Whole programs.
 #[test]
 fn programs(rt: HostRuntime) -> Result<(), Fail> {
-    let cases: [(&[(&str, &str)], &str); 20] = [
+    let cases: [(&[(&str, &str)], &str); 21] = [
         (
             &[
                 (
@@ -322,6 +322,21 @@ int main()
 ",
             )],
             "order.c:13:18: rule 8 order",
+        ),
+        (
+            &[(
+                "hide.c",
+                "int main()
+//@ requires true;
+//@ ensures true;
+{
+  int x = 1;
+  //@ int x = 2;
+  return x;
+}
+",
+            )],
+            "hide.c:6:11: rule 7 ghostinreal",
         ),
         (
             &[(
