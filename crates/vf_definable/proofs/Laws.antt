@@ -22,7 +22,7 @@ use Rattle.vf_walk.specs.Items.{WalksItem, WalksItems}
 use Rattle.vf_equations.specs.Fixpoints.{EquationsCome, FixpointComes}
 use Rattle.vf_annotations.specs.Forms.{FormComes, meanings}
 use Rattle.vf_resolve.specs.Beginning.{beginning}
-use Rattle.vf_determined.proofs.Equating.{equations_come}
+use Rattle.vf_written_order.proofs.EquationsCome.{equations_come}
 use Rattle.vf_defining.specs.Symbols.{without_locals}
 use Rattle.vf_defining.specs.Units.{AnyIsRefused, Written, within_fixpoint, written_form, written_in}
 use Rattle.vf_defining.specs.Units as units

@@ -1,13 +1,2 @@
-pub mod Results
-pub mod Sorting
-pub mod Sorts
-pub mod Binding
-pub mod Bindings
-pub mod Asserting
-pub mod Assertions
-pub mod Commanding
-pub mod Commands
-pub mod Equating
-pub mod Annotating
 pub mod Phasing
 pub mod Laws

@@ -1,5 +1,5 @@
 -- What comes to one thing at most.
-use Rattle.std.specs.Prelude.{◌≡◌, List, Result, Ok, Err}
+use Rattle.std.specs.Prelude.{◌≡◌, List, Result}
 use Rattle.vf_base.specs.declared.refusal.Refusal.{Refusal}
 use Rattle.vf_sorts.specs.Sorts.{Sort}
 use Rattle.vf_sorts.specs.Unknowns.{Known}
@@ -8,31 +8,17 @@ use Rattle.vf_syntax.specs.declared.item.Item.{Item}
 use Rattle.vf_syntax.specs.AssertionTree.{PartTrees}
 use Rattle.vf_syntax.specs.GhostExprTree.{GhostExprTree}
 use Rattle.vf_sorting.specs.declared.context.Context.{Context}
-use Rattle.vf_sorting.specs.HasSort.{HasSort}
-use Rattle.vf_sorting.specs.IsRefused.{IsRefused}
-use Rattle.vf_asserting.specs.Gives.{Gives}
-use Rattle.vf_asserting.specs.IsRefused.{AnyPartFails}
 use Rattle.vf_datatypes.specs.declared.stated.Stated.{Stated}
 use Rattle.vf_walk.specs.Agreeing.{AreDetermined}
 use Rattle.vf_walk.specs.Walking.{Walked}
 use Rattle.vf_annotations.specs.Forms.{meanings}
 use Rattle.vf_resolve.specs.declared.files.Files.{Files}
 use Rattle.vf_resolve.specs.Units.{ItemsCome}
-use Rattle.vf_phases.specs.Phases.{IsRefusedInPhases, PassesPhases}
-
--- an expression comes to a sort that it has with what is known then, or to a refusal
-pub data SortComes (s : Scope) (c : Context) (k : Known) (e : GhostExprTree) : Result (Sort × Known) Refusal → Type 0 where
-  has : {t : Sort} {k' : Known} → HasSort s c k e t k' → SortComes s c k e (Ok (t, k'))
-  refused : {r : Refusal} → IsRefused s c k e r → SortComes s c k e (Err r)
+use Rattle.vf_written_order.specs.Agreeing.{AssertionComes, PhasesCome, SortComes}
 
 -- an expression has one sort at most, with one that is known then, or is refused in one way
 abbrev pub SortsAreDetermined : Type 0
 SortsAreDetermined = (s : Scope) (c : Context) (k : Known) (e : GhostExprTree) (v w : Result (Sort × Known) Refusal) → SortComes s c k e v → SortComes s c k e w → v ≡ w
-
--- an assertion comes to what it declares with what is known then, or to a refusal
-pub data AssertionComes (c : Context) (s : Scope) (k : Known) (xs : PartTrees) : Result (Scope × Known) Refusal → Type 0 where
-  gives : {s' : Scope} {k' : Known} → Gives c s k xs s' k' → AssertionComes c s k xs (Ok (s', k'))
-  refused : {r : Refusal} → AnyPartFails c s k xs r → AssertionComes c s k xs (Err r)
 
 -- an assertion declares one thing at most, or is refused in one way
 abbrev pub AssertionsAreDetermined : Type 0
@@ -45,11 +31,6 @@ AnnotationsAreDetermined = (d : Stated) → AreDetermined (meanings d)
 -- a unit declares one thing at most, or is refused in one way
 abbrev pub UnitsAreDetermined : Type 0
 UnitsAreDetermined = (xs : List Item) (s : Scope) (v w : Walked) → ItemsCome xs s v → ItemsCome xs s w → v ≡ w
-
--- a unit passes the phases of names, of fixpoints and of order with what it declares, or is refused in the first of them that refuses it
-pub data PhasesCome (f : Files) (xs : List Item) : Result Scope Refusal → Type 0 where
-  pass : {s : Scope} → PassesPhases f xs s → PhasesCome f xs (Ok s)
-  refused : {r : Refusal} → IsRefusedInPhases f xs r → PhasesCome f xs (Err r)
 
 -- a unit comes through these phases in one way at most
 abbrev pub PhasesAreDetermined : Type 0

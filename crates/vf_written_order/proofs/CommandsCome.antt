@@ -25,12 +25,13 @@ use Rattle.vf_commands.specs.Locals.{with_ghost}
 use Rattle.vf_commands.specs.Opening as opening
 use Rattle.vf_commands.specs.Switches.{are_cases}
 use Rattle.vf_commands.specs.Switches as switches
-use Rattle.vf_determined.proofs.Results.{goes, pair, refused_so, same_count, stops, told_false, unrefused, where_not, where_so}
-use Rattle.vf_determined.proofs.Sorts.{all_passed, any_fails, counts, is_failed, is_passed, is_refused, made_so, sorted, unmade_so}
-use Rattle.vf_determined.proofs.Bindings.{all_heads_pass, heads_fail, share_fails, share_passes, taken_binds, taken_fails, taken_not, taken_so}
-use Rattle.vf_determined.proofs.Asserting.{by_datatype, switch_of, triple}
-use Rattle.vf_determined.proofs.Assertions.{any_part_fails, case_binds, names_fail, parts_give}
-use Rattle.vf_determined.proofs.Commanding.{assignment_of, call_of, case_of, cases_of, close_by, close_of, close_taken, command_of, commands_of, declaration_of, open_of, open_taken, values_of}
+use Rattle.vf_written_order.specs.Following.{pair}
+use Rattle.vf_written_order.proofs.Results.{goes, refused_so, same_count, stops, told_false, unrefused, where_not, where_so}
+use Rattle.vf_written_order.proofs.SortsCome.{all_passed, any_fails, counts, is_failed, is_passed, is_refused, made_so, sorted, unmade_so}
+use Rattle.vf_written_order.proofs.PartsCome.{all_heads_pass, heads_fail, share_fails, share_passes, taken_binds, taken_fails, taken_not, taken_so}
+use Rattle.vf_written_order.specs.Assertions.{by_datatype, switch_of, triple}
+use Rattle.vf_written_order.proofs.AssertionsCome.{any_part_fails, case_binds, names_fail, parts_give}
+use Rattle.vf_written_order.specs.Commands.{assignment_of, call_of, case_of, cases_of, close_by, close_of, close_taken, command_of, commands_of, declaration_of, open_of, open_taken, values_of}
 
 -- ---- `open` and `close`
 open_binds : {s : Scope} {c : Context} {k k' : Known} {b' : Bound} {h : Option Share} {n : Name} {xs : List Pattern} {ys : Option (List Pattern)} → opening.OpenBinds s c k h n xs ys k' b' → open_of s c k h n xs ys ≡ Ok (pair k' b')

@@ -17,10 +17,11 @@ use Rattle.vf_asserting.specs.Cases as cases
 use Rattle.vf_asserting.specs.Gives as gives
 use Rattle.vf_asserting.specs.IsRefused as fails
 use Rattle.vf_asserting.specs.Switches as switches
-use Rattle.vf_determined.proofs.Results.{goes, other_count, pair, refused_so, same_count, stops, unrefused, where_not, where_so}
-use Rattle.vf_determined.proofs.Sorts.{is_failed, is_passed, is_refused, made_so, sorted, unmade_so}
-use Rattle.vf_determined.proofs.Bindings.{cell_binds, cell_fails, chunk_binds, chunk_fails}
-use Rattle.vf_determined.proofs.Asserting.{by_datatype, case_names, case_of, cases_of, names_of, part_of, parts_of, switch_of, triple}
+use Rattle.vf_written_order.specs.Following.{pair}
+use Rattle.vf_written_order.proofs.Results.{goes, other_count, refused_so, same_count, stops, unrefused, where_not, where_so}
+use Rattle.vf_written_order.proofs.SortsCome.{is_failed, is_passed, is_refused, made_so, sorted, unmade_so}
+use Rattle.vf_written_order.proofs.PartsCome.{cell_binds, cell_fails, chunk_binds, chunk_fails}
+use Rattle.vf_written_order.specs.Assertions.{by_datatype, case_names, case_of, cases_of, names_of, part_of, parts_of, switch_of, triple}
 
 -- ---- the names of cases
 names_bind : {s : Scope} {b b' : Bound} {ns : List Name} {ts : List Sort} → cases.NamesBind s b ns ts b' → names_of s b ns ts ≡ Ok b'

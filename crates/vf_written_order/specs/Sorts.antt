@@ -1,5 +1,5 @@
 -- What sorting an expression comes to, as a function: the sort with what is known then, or the first refusal.
-use Rattle.std.proofs.Common.{ℕ, Bool, false, ◌&&◌, ◌||◌, nat_eq, List, [], ◌∷◌, length, Option, Some, None, Result, Ok, Err}
+use Rattle.std.specs.Prelude.{ℕ, Bool, false, ◌&&◌, ◌||◌, nat_eq, List, [], ◌∷◌, length, Option, Some, None, Result, Ok, Err}
 use Rattle.vf_base.specs.declared.place.Place.{Place}
 use Rattle.vf_base.specs.declared.refusal.Refusal.{Refusal}
 use Rattle.vf_base.specs.declared.rule.Rule.TheVariants as rules
@@ -15,7 +15,7 @@ use Rattle.vf_sorting.specs.Kinds.{bool_sort, int_sort, is_any, is_pointer, poin
 use Rattle.vf_sorting.specs.Schemes.{application_scheme, name_scheme, names_predicate}
 use Rattle.vf_sorting.specs.Operators.{count, is_equality, is_null, moves, operand_sort, place_of, prefix_sort, result_sort}
 use Rattle.vf_sorting.specs.Refusals.{refused}
-use Rattle.vf_determined.proofs.Results.{after, choose}
+use Rattle.vf_written_order.specs.Following.{after, choose}
 
 -- a sort with what is known then, or a refusal
 abbrev pub Sorted : Type 0
@@ -41,12 +41,13 @@ result_at p k (Some t) = choose (numbered_below (length k) t) (Ok (at t k)) (Err
 
 -- a word at a place where it may stand or not
 abbrev pub word_at : Place → Known → Sort → Bool → Sorted
-word_at p k t may = choose (may) (Ok (at t k)) (Err (refused rules.Name p))
+word_at p k t may = choose may (Ok (at t k)) (Err (refused rules.Name p))
 
 -- a scheme has no other unknown sorts than those that are there
 abbrev pub is_scheme_below : ℕ → Scheme → Bool
 is_scheme_below n g = all_numbered_below n (row g.arguments) && numbered_below n g.result
 
+-- a name at a place, by what it may be used at
 abbrev pub named_at : Place → Known → Result Scheme Refusal → Sorted
 named_at p k (Err x) = Err x
 named_at p k (Ok g) = choose (is_scheme_below (length k) g) (Ok (at (instance (length k) g.parameters g.result) (with_fresh k g.parameters))) (Err (refused rules.Typing p))
@@ -54,7 +55,7 @@ named_at p k (Ok g) = choose (is_scheme_below (length k) g) (Ok (at (instance (l
 -- an application of a scheme to so many arguments, which are passed by a function
 abbrev pub applied_at : Place → Known → ℕ → (Known → ℕ → ℕ → List Sort → Passed) → Result Scheme Refusal → Sorted
 applied_at p k n pass (Err x) = Err x
-applied_at p k n pass (Ok g) = choose (is_scheme_below (length k) g) ((choose (nat_eq (length g.arguments) n) (after (λ k'. Ok (at (instance (length k) g.parameters g.result) k')) (pass (with_fresh k g.parameters) (length k) g.parameters g.arguments)) (Err (refused rules.Typing p)))) (Err (refused rules.Typing p))
+applied_at p k n pass (Ok g) = choose (is_scheme_below (length k) g) (choose (nat_eq (length g.arguments) n) (after (λ k'. Ok (at (instance (length k) g.parameters g.result) k')) (pass (with_fresh k g.parameters) (length k) g.parameters g.arguments)) (Err (refused rules.Typing p))) (Err (refused rules.Typing p))
 
 -- a sort beside one in front of it, that is or is not a `0`, at a place
 abbrev pub beside : Place → Bool → Sort → Sort × Known → Sorted
@@ -69,6 +70,7 @@ abbrev pub wanted : Known → Sort → Place → Sorted → Passed
 wanted k w q r = choose (is_any (resolved k w)) (after (λ x. Ok x.1) r) (after (λ x. made_at q (unified x.1 x.0 w)) r)
 
 abbrev mutual
+  -- an expression: its parts from left to right, then what it makes of them
   pub sort_of : Scope → Context → Known → GhostExprTree → Sorted
   sort_of s c k (tree.number p n i) = Ok (at int_sort k)
   sort_of s c k (tree.true_ p) = Ok (at bool_sort k)
@@ -83,13 +85,16 @@ abbrev mutual
   sort_of s c k (tree.unary p o a) = after (λ k'. Ok (at (prefix_sort o) k')) (passed s c k (prefix_sort o) (place_of a) a)
   sort_of s c k (tree.chain p l a xs) = after (λ r. links_of s c r.1 (is_null a) (place_of a) r.0 xs) (sort_of s c k a)
 
+  -- an operator with its operand behind a left operand, that is or is not a `0`, stands at a place and has a sort
   pub link_of : Scope → Context → Known → Bool → Place → Sort → GhostLinkTree → Sorted
   link_of s c k z p t (tree.ghost_link q o a) = choose (is_equality o) (after (λ r. Ok (at bool_sort r.1)) (met k z t a (sort_of s c k a))) (choose (moves o (resolved k t)) (after (λ k'. Ok (at pointer_sort k')) (passed s c k int_sort (place_of a) a)) (after (λ k₁. after (λ k'. Ok (at (result_sort o) k')) (passed s c k₁ (operand_sort o) (place_of a) a)) (made_at p (unified k t (operand_sort o)))))
 
+  -- operators with their operands, from left to right
   pub links_of : Scope → Context → Known → Bool → Place → Sort → GhostLinkTrees → Sorted
   links_of s c k z p t no_ghost_link = Ok (at t k)
   links_of s c k z p t (more_ghost_link x xs) = after (λ r. links_of s c r.1 false p r.0 xs) (link_of s c k z p t x)
 
+  -- an expression of which a sort is wanted: what is wanted goes inside parentheses, and inside choices where it is a pointer; else the expression is looked at first, and its sort then
   pub passed : Scope → Context → Known → Sort → Place → GhostExprTree → Passed
   passed s c k w q (tree.parenthesized p a) = passed s c k w q a
   passed s c k w q (tree.number p n i) = choose (is_pointer (resolved k w) && nat_eq n 0) (Ok k) (wanted k w q (Ok (at int_sort k)))
@@ -104,6 +109,7 @@ abbrev mutual
   passed s c k w q (tree.unary p o a) = wanted k w q (after (λ k'. Ok (at (prefix_sort o) k')) (passed s c k (prefix_sort o) (place_of a) a))
   passed s c k w q (tree.chain p l a xs) = wanted k w q (after (λ r. links_of s c r.1 (is_null a) (place_of a) r.0 xs) (sort_of s c k a))
 
+  -- arguments from left to right, each of which has to pass for its parameter
   pub passed_all : Scope → Context → Known → ℕ → ℕ → List Sort → GhostExprTrees → Passed
   passed_all s c k first n [] no_ghost_expr = Ok k
   passed_all s c k first n [] (more_ghost_expr a xs) = Ok k

@@ -1,11 +1,7 @@
 -- Results one after the other.
-use Rattle.std.proofs.Common.{◌≡◌, refl, sym, ◌∙◌, ap, ℕ, nat_eq, Bool, true, false, IsTrue, Option, Some, None, Result, Ok, Err, arith}
+use Rattle.std.proofs.Common.{◌≡◌, refl, ◌∙◌, ap, ℕ, nat_eq, Bool, true, false, IsTrue, Option, Some, None, Result, Ok, Err, arith}
 use Rattle.vf_base.specs.declared.refusal.Refusal.{Refusal}
-
--- what comes of a result: what follows where there is one, or the refusal
-unfoldable pub after : {A B : Type 0} → (A → Result B Refusal) → Result A Refusal → Result B Refusal
-after f (Ok a) = f a
-after f (Err x) = Err x
+use Rattle.vf_written_order.specs.Following.{after, choose, unless_refused}
 
 pub goes : {A B : Type 0} (f : A → Result B Refusal) {r : Result A Refusal} {a : A} {w : Result B Refusal} → r ≡ Ok a → f a ≡ w → after f r ≡ w
 unfolding after
@@ -14,11 +10,6 @@ goes f e h = ap (after f) e ∙ h
 pub stops : {A B : Type 0} (f : A → Result B Refusal) {r : Result A Refusal} {x : Refusal} → r ≡ Err x → after f r ≡ Err x
 unfolding after
 stops f e = ap (after f) e
-
--- a choice by a test
-unfoldable pub choose : {A : Type 0} → Bool → A → A → A
-choose true x y = x
-choose false x y = y
 
 pub where_so : {A : Type 0} {b : Bool} {x w : A} (y : A) → b ≡ true → x ≡ w → choose b x y ≡ w
 unfolding choose
@@ -39,18 +30,10 @@ pub told_false : (b : Bool) {P : Type 0} → (IsTrue b → P) × (P → IsTrue b
 told_false true t n = absurd (n (t.0 refl))
 told_false false t n = refl
 
--- two results that one function gives are one
-pub one_of : {A : Type 0} {r v w : A} → r ≡ v → r ≡ w → v ≡ w
-one_of e h = sym e ∙ h
-
--- two things together
-abbrev pub pair : {A B : Type 0} → A → B → A × B
-pair a b = (a, b)
-
--- something, unless it is refused
-unfoldable pub unless_refused : {A : Type 0} → A → Option Refusal → Result A Refusal
-unless_refused a None = Ok a
-unless_refused a (Some x) = Err x
+-- what a test that fails does not tell
+pub untold : (b : Bool) {P : Type 0} → (IsTrue b → P) × (P → IsTrue b) → b ≡ false → P → ⊥
+untold true t e h = absurd cc
+untold false t e h = let so = t.1 h in absurd cc
 
 pub unrefused : {A : Type 0} {a : A} {o : Option Refusal} → o ≡ None → unless_refused a o ≡ Ok a
 unfolding unless_refused

@@ -18,8 +18,8 @@ use Rattle.vf_sorting.specs.Kinds.{is_pointer, resolved}
 use Rattle.vf_sorting.specs.Scopes.{IsSchemeBelow}
 use Rattle.vf_sorting.specs.Operators.{count, goes_inside}
 use Rattle.vf_sorting.specs.Refusals.{refused}
-use Rattle.vf_determined.proofs.Results.{either_way, goes, same_count, stops, where_so, where_not, told_false}
-use Rattle.vf_determined.proofs.Sorting.{Sorted, applied_at, at, is_scheme_below, link_of, links_of, made_at, met, named_at, passed, passed_all, result_at, sort_of, wanted}
+use Rattle.vf_written_order.proofs.Results.{either_way, goes, same_count, stops, where_so, where_not, told_false}
+use Rattle.vf_written_order.specs.Sorts.{Sorted, applied_at, at, is_scheme_below, link_of, links_of, made_at, met, named_at, passed, passed_all, result_at, sort_of, wanted}
 
 -- ---- tests
 both_so : {a b : Bool} → a ≡ true → b ≡ true → (a && b) ≡ true
@@ -28,7 +28,7 @@ both_so {b = b} e h = ap (λ x. x && b) e ∙ h
 pub scheme_so : (n : ℕ) (g : Scheme) → IsSchemeBelow n g → is_scheme_below n g ≡ true
 scheme_so n g h = both_so ((all_below_told n (row g.arguments)).1 h.0) ((below_told n g.result).1 h.1)
 
-scheme_tells : (n : ℕ) (g : Scheme) → IsTrue (is_scheme_below n g) → IsSchemeBelow n g
+pub scheme_tells : (n : ℕ) (g : Scheme) → IsTrue (is_scheme_below n g) → IsSchemeBelow n g
 scheme_tells n g h = by (all_numbered_below n (row g.arguments)) (numbered_below n g.result) (all_below_told n (row g.arguments)).0 (below_told n g.result).0 h
   where
     by : (a b : Bool) → (IsTrue a → EachUnknownOf (λ u. u < n) (row g.arguments)) → (IsTrue b → IsBelow n g.result) → IsTrue (a && b) → IsSchemeBelow n g

@@ -1,60 +1,28 @@
--- What the equations of fixpoints come to.
-use Rattle.std.proofs.Common.{◌≡◌, refl, ◌∙◌, ap, ℕ, List, [], ◌∷◌, length, Ok, Err}
+-- The rules of equations come to what the functions come to.
+use Rattle.std.proofs.Common.{◌≡◌, refl, ◌∙◌, ap, ℕ, List, [], length, Ok, Err}
 use Rattle.vf_base.specs.declared.refusal.Refusal.{Refusal}
-use Rattle.vf_base.specs.declared.rule.Rule.TheVariants as rules
 use Rattle.vf_sorts.specs.Sorts.{Sort}
 use Rattle.vf_sorts.specs.Unknowns.{Known, numbered_below}
 use Rattle.vf_sorts.proofs.Filled.{below_told}
 use Rattle.vf_declared.specs.declared.scope.Scope.{Scope}
 use Rattle.vf_syntax.specs.declared.item.FixpointBody.{FixpointBody}
-use Rattle.vf_syntax.specs.declared.item.FixpointBody.TheVariants as bodies
 use Rattle.vf_syntax.specs.declared.item.FixpointCase.{FixpointCase}
 use Rattle.vf_syntax.specs.declared.written.Name.{Name}
 use Rattle.vf_syntax.specs.GhostExprTree.{GhostExprTree}
 use Rattle.vf_sorting.specs.declared.context.Context.{Context}
-use Rattle.vf_sorting.specs.Operators.{place_of}
-use Rattle.vf_sorting.specs.Refusals.{refused}
-use Rattle.vf_binding.specs.Bound.{with_names}
-use Rattle.vf_asserting.specs.Leaving.{count, left}
-use Rattle.vf_asserting.specs.Cases.{datatype_in, names_or_none}
-use Rattle.vf_asserting.specs.Switches.{case_sorts}
 use Rattle.vf_walk.specs.Walking.{Walked}
 use Rattle.vf_equations.specs.Fixpoints.{around_fixpoint, result_of}
 use Rattle.vf_equations.specs.Fixpoints as fixpoints
 use Rattle.vf_equations.specs.Switching.{are_constructors, switched_sort}
 use Rattle.vf_equations.specs.Switching as switching
 use Rattle.vf_equations.specs.Values as values
-use Rattle.vf_determined.proofs.Results.{after, choose, goes, pair, stops, told_false, where_not, where_so}
-use Rattle.vf_determined.proofs.Sorting.{Passed, passed}
-use Rattle.vf_determined.proofs.Sorts.{is_failed, is_passed, made_so, unmade_so}
-use Rattle.vf_determined.proofs.Asserting.{Given, Switched, by_datatype, case_names, still, triple}
-use Rattle.vf_determined.proofs.Assertions.{case_binds, names_fail}
+use Rattle.vf_written_order.specs.Following.{pair}
+use Rattle.vf_written_order.proofs.Results.{goes, stops, told_false, where_not, where_so}
+use Rattle.vf_written_order.proofs.SortsCome.{is_failed, is_passed, made_so, unmade_so}
+use Rattle.vf_written_order.specs.Assertions.{by_datatype, triple}
+use Rattle.vf_written_order.specs.Equations.{case_of, cases_of, equations_of, switch_of, value_of}
+use Rattle.vf_written_order.proofs.AssertionsCome.{case_binds, names_fail}
 
--- ---- what is come to
-abbrev pub value_of : Scope → Context → Sort → Known → GhostExprTree → Passed
-value_of s c t k e = choose (numbered_below (length k) t) (passed s c k t (place_of e) e) (Err (refused rules.Typing (place_of e)))
-
-abbrev pub case_of : Context → Sort → ℕ → Scope → Known → FixpointCase → Given
-case_of c t m s k x = after (λ b. after (still (left (count s) (with_names s b))) (value_of (with_names s b) c t k x.value)) (case_names s (names_or_none x.pattern.names) (case_sorts s 0 m x.pattern) x.pattern.constructor.place)
-
-abbrev pub cases_of : Context → Sort → ℕ → Scope → Known → List FixpointCase → Given
-cases_of c t m s k [] = still s k
-cases_of c t m s k (x ∷ xs) = after (λ r. cases_of c t m r.0 r.1 xs) (case_of c t m s k x)
-
-abbrev pub switched_at : Scope → Name → List FixpointCase → Sort → Switched
-switched_at s n cs t = choose (numbered_below 0 t) (by_datatype s n.place (λ d. are_constructors s d cs) t [] (datatype_in t)) (Err (refused rules.Typing n.place))
-
-abbrev pub switch_of : Scope → Name → List FixpointCase → Switched
-switch_of s n cs = after (switched_at s n cs) (switched_sort s n)
-
-abbrev pub left_of : ℕ → Scope → Walked
-left_of m s = Ok (left m s)
-
-abbrev pub equations_of : ℕ → ℕ → Scope → FixpointBody → Walked
-equations_of m n s (bodies.Value e) = after (λ k. left_of m s) (value_of s (around_fixpoint n) (result_of s n) [] e)
-equations_of m n s (bodies.Switch x cs) = after (λ v. after (λ r. left_of m r.0) (cases_of (around_fixpoint n) (result_of s n) v.1 s v.2 cs)) (switch_of s x cs)
-
--- ---- the rules come to it
 value_passes : {s : Scope} {c : Context} {t : Sort} {k k' : Known} {e : GhostExprTree} → values.ValuePasses s c t k e k' → value_of s c t k e ≡ Ok k'
 value_passes {t = t} {k = k} (values.passes b h) = where_so _ ((below_told (length k) t).1 b) (is_passed h)
 

@@ -20,9 +20,10 @@ use Rattle.vf_binding.specs.Chunks.{AreHeadsBelow, IsTakenBelow}
 use Rattle.vf_binding.specs.Chunks as chunks
 use Rattle.vf_binding.specs.Patterns as rules_of
 use Rattle.vf_binding.specs.Shares as shares
-use Rattle.vf_determined.proofs.Results.{choose, goes, other_count, pair, refused_so, same_count, stops, unrefused, where_not, where_so}
-use Rattle.vf_determined.proofs.Binding.{amount_of, are_heads_below, arguments_of, by_field, by_struct, by_takes, cell_of, chunk_of, factor_of, factors_of, head_of, heads_at, heads_of, is_taken_below, listed_at, pattern_of, patterns_of, share_of, taken_of, truth_of}
-use Rattle.vf_determined.proofs.Sorts.{is_failed, is_passed, is_refused, sorted}
+use Rattle.vf_written_order.specs.Following.{choose, pair}
+use Rattle.vf_written_order.proofs.Results.{goes, other_count, refused_so, same_count, stops, unrefused, where_not, where_so}
+use Rattle.vf_written_order.specs.Parts.{amount_of, are_heads_below, arguments_of, by_field, by_struct, by_takes, cell_of, chunk_of, factor_of, factors_of, head_of, heads_at, heads_of, is_taken_below, listed_at, pattern_of, patterns_of, share_of, taken_of, truth_of}
+use Rattle.vf_written_order.proofs.SortsCome.{is_failed, is_passed, is_refused, sorted}
 
 -- ---- patterns
 pub binds : {s : Scope} {c : Context} {k k' : Known} {b b' : Bound} {w : Sort} {x : Pattern} → rules_of.Binds s c k b w x k' b' → pattern_of s c k b w x ≡ Ok (pair k' b')
@@ -136,7 +137,7 @@ heads_told : (n : ℕ) (o : Option (List Sort)) → (IsTrue (are_heads_below n o
 heads_told n None = (λ e. tt, λ h. refl)
 heads_told n (Some ts) = all_below_told n (row ts)
 
-taken_told : (n : ℕ) (t : ChunkSorts) → (IsTrue (is_taken_below n t) → IsTakenBelow n t) × (IsTakenBelow n t → IsTrue (is_taken_below n t))
+pub taken_told : (n : ℕ) (t : ChunkSorts) → (IsTrue (is_taken_below n t) → IsTakenBelow n t) × (IsTakenBelow n t → IsTrue (is_taken_below n t))
 taken_told n t = both (are_heads_below n t.heads) (all_numbered_below n (row t.arguments)) (heads_told n t.heads) (all_below_told n (row t.arguments))
 
 pub taken_so : (n : ℕ) (t : ChunkSorts) → IsTakenBelow n t → is_taken_below n t ≡ true

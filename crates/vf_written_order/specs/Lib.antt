@@ -1,0 +1,17 @@
+pub mod Following
+pub mod Sorts
+pub mod Parts
+pub mod Assertions
+pub mod Commands
+pub mod Equations
+pub mod Contracting
+pub mod Alike
+pub mod Predicates
+pub mod Lemmas
+pub mod Forms
+pub mod Walks
+pub mod Statements
+pub mod Items
+pub mod Units
+pub mod Agreeing
+pub mod Examples
