@@ -1,8 +1,11 @@
-//! Trials of the phases of whole files: what is refused by names, types, sorts, fixpoints and order, and where.
+//! Trials of the phases of whole files: what is refused by names, types, sorts, fixpoints and order, and where,
+//! and which of two faults is told.
 #![tactic(auto)]
 
 #[cfg(test)]
 mod checked;
+#[cfg(test)]
+mod firsts;
 #[cfg(test)]
 mod fixpoints;
 #[cfg(test)]
