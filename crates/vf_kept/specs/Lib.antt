@@ -1,3 +1,4 @@
 pub mod Accepted
 pub mod Example
 pub mod Parameters
+pub mod Reading

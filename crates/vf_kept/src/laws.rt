@@ -3,6 +3,7 @@
 ghost use Rattle.vf_kept.specs.Accepted.{AcceptedFixpointsKeepSorts, AcceptedUnitsDefine, AcceptedValuesFollowSorting};
 ghost use Rattle.vf_kept.specs.Example.{RestsAreLists};
 ghost use Rattle.vf_kept.specs.Parameters.{IntegersAreMet, ParametersAreMet};
+ghost use Rattle.vf_kept.specs.Reading.{ReadFixpointsKeepSorts, ReadValuesFollowSorting};
 
 /// A unit that is accepted, in whose names no `#` stands, meets all that is asked of units, where an interpretation gives
 /// the definitions of its items the values of their bodies.
@@ -19,6 +20,16 @@ pub fn accepted_fixpoints_keep_sorts()
 /// that sort as it is known in the end, where the terms that stand there have values of their sorts.
 pub fn accepted_values_follow_sorting()
     ensures { AcceptedValuesFollowSorting }
+{}
+
+/// The fixpoints of a unit that is read from a file and accepted keep sorts in the same way: nothing is asked of its names.
+pub fn read_fixpoints_keep_sorts()
+    ensures { ReadFixpointsKeepSorts }
+{}
+
+/// And values follow sorting over such a unit.
+pub fn read_values_follow_sorting()
+    ensures { ReadValuesFollowSorting }
 {}
 
 /// A unit of lists with the rest and the length of one is accepted, and in each interpretation that gives these the values

@@ -8,5 +8,6 @@ mod laws;
 
 pub use laws::{
     accepted_fixpoints_keep_sorts, accepted_units_define, accepted_values_follow_sorting,
-    integers_are_met, parameters_are_met, rests_are_lists,
+    integers_are_met, parameters_are_met, read_fixpoints_keep_sorts, read_values_follow_sorting,
+    rests_are_lists,
 };
