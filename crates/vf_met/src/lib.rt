@@ -1,0 +1,9 @@
+//! The fixpoints of an accepted unit have values: an interpretation gives its definitions the values of their bodies.
+//!
+//! The definitions stand in `specs/`; the code here is public functions with an empty body, each of
+//! which has a law as its contract.
+#![tactic(auto)]
+
+mod laws;
+
+pub use laws::definitions_are_met;
