@@ -1,3 +1,4 @@
 pub mod Small
 pub mod Agreeing
 pub mod Meeting
+pub mod Endless

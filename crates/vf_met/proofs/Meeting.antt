@@ -10,8 +10,6 @@ use Rattle.vf_meaning.proofs.FitSteps.{identities, own_identity}
 use Rattle.vf_closure.specs.Values.{of_kind}
 use Rattle.vf_formula.specs.Heads.{shown_kind}
 use Rattle.vf_definitions.specs.Laws.{MeetsBody}
-use Rattle.vf_definitions.specs.Unfolded.{case_for}
-use Rattle.vf_definitions.specs.declared.fixpoint.Case.{Case}
 use Rattle.vf_definitions.specs.declared.fixpoint.Body.{Body}
 use Rattle.vf_definitions.specs.declared.fixpoint.Body.TheVariants.{Returns, Switches}
 use Rattle.vf_definitions.specs.declared.fixpoint.Fixpoint as definitions

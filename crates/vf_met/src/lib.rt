@@ -6,4 +6,4 @@
 
 mod laws;
 
-pub use laws::definitions_are_met;
+pub use laws::{definitions_are_met, endless_is_not_met};
