@@ -2,3 +2,10 @@ pub mod Small
 pub mod Agreeing
 pub mod Meeting
 pub mod Endless
+pub mod Kinded
+pub mod Sorted
+pub mod Results
+pub mod Once
+pub mod Own
+pub mod Agreement
+pub mod Accepted

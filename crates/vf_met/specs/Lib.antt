@@ -1,3 +1,4 @@
 pub mod Laws
 pub mod Valued
 pub mod Endless
+pub mod Units

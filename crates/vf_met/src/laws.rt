@@ -2,6 +2,7 @@
 
 ghost use Rattle.vf_met.specs.Endless.{EndlessIsNotMet};
 ghost use Rattle.vf_met.specs.Laws.{DefinitionsAreMet};
+ghost use Rattle.vf_met.specs.Units.{AcceptedDefinitionsAgree, AcceptedUnitsAreMet, AcceptedUnitsAreMetInSorts, ReadUnitsAreMet};
 
 /// Definitions whose applications go down in some order, and which agree where they are of one identity, have an
 /// interpretation with any claims that gives them the values of their bodies.
@@ -13,4 +14,25 @@ pub fn definitions_are_met()
 /// value of its body.
 pub fn endless_is_not_met()
     ensures { EndlessIsNotMet }
+{}
+
+/// The definitions of a unit that is accepted, in whose names no `#` stands, agree where they are of one identity: they are
+/// of one item, and where there are two the second is the first taken as a number.
+pub fn accepted_definitions_agree()
+    ensures { AcceptedDefinitionsAgree }
+{}
+
+/// So an interpretation with any claims gives the definitions of such a unit the values of their bodies.
+pub fn accepted_units_are_met()
+    ensures { AcceptedUnitsAreMet }
+{}
+
+/// And one does so in which the fixpoints that the unit declares keep sorts.
+pub fn accepted_units_are_met_in_sorts()
+    ensures { AcceptedUnitsAreMetInSorts }
+{}
+
+/// The same of a unit that is read from a file and accepted, whatever its names.
+pub fn read_units_are_met()
+    ensures { ReadUnitsAreMet }
 {}

@@ -6,4 +6,7 @@
 
 mod laws;
 
-pub use laws::{definitions_are_met, endless_is_not_met};
+pub use laws::{
+    accepted_definitions_agree, accepted_units_are_met, accepted_units_are_met_in_sorts,
+    definitions_are_met, endless_is_not_met, read_units_are_met,
+};
