@@ -18,8 +18,6 @@ mod rule;
 mod sequence;
 mod sink;
 mod sure;
-#[cfg(test)]
-mod tests;
 mod text;
 
 pub use decimal::{decimal_front, one_decimal_front};

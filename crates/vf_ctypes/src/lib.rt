@@ -5,8 +5,6 @@
 
 mod laws;
 mod ranges;
-#[cfg(test)]
-mod tests;
 mod types;
 
 pub use laws::{

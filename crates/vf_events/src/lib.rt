@@ -6,8 +6,6 @@
 #![tactic(auto)]
 
 mod read;
-#[cfg(test)]
-mod tests;
 mod write;
 
 pub use read::{Schedule, ScheduleFault, one_reading, read_schedule};

@@ -20,5 +20,3 @@ pub use lexer::{lex, longest_token, one_reading, tokens_are_slices, tokens_have_
 pub use punctuator::{Punctuator, longest_punctuator};
 pub use token::{Kind, Token, TokenList};
 
-#[cfg(test)]
-mod tests;

@@ -9,5 +9,3 @@ pub use held::{Held, SnapFault};
 pub use path::{normal_path, normal_path_of_bytes};
 pub use snapshot::Snapshot;
 
-#[cfg(test)]
-mod tests;

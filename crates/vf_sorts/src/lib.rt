@@ -12,8 +12,6 @@ pub mod laws;
 mod occurrence;
 mod pair;
 mod sort;
-#[cfg(test)]
-mod tests;
 mod unify;
 mod unknowns;
 

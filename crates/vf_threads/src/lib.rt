@@ -5,5 +5,3 @@ mod headers;
 
 pub use headers::prelude;
 
-#[cfg(test)]
-mod tests;

@@ -171,34 +171,3 @@ pub fn paths_stay<L>()
 pub fn paths_step<L>()
     ensures { PathsStep L }
 {}
-
-#[cfg(test)]
-mod tests {
-    use super::*;
-    use std::test::Fail;
-
-    #[test]
-    fn facts_hang_on_nodes(rt: HostRuntime) -> Result<(), Fail> {
-        let mut trail = Trail::<u8>::new(rt.alloc());
-        trail.reserve(2)?;
-        let left = trail.push(Node::ROOT, 10)?;
-        let below = trail.push(left, 11)?;
-        let right = trail.push(Node::ROOT, 12)?;
-        assert_eq!(rt; trail.len(), 3);
-        for (node, number, fact, parent) in [
-            (left, 1, 10, 0),
-            (below, 2, 11, 1),
-            (right, 3, 12, 0),
-        ] {
-            assert_eq!(rt; node.number, number);
-            assert!(rt; node.number > 0 && node.number as usize <= trail.len());
-            assert_eq!(rt; *trail.get(node), fact);
-            assert_eq!(rt; trail.parent(node).number, parent);
-        }
-        assert!(rt; trail.reserve(4_194_302) == Err(TrailFault::Full));
-        assert!(rt; trail.reserve(4_194_301) == Ok(()));
-        paths_stay::<u8>();
-        paths_step::<u8>();
-        Ok(())
-    }
-}

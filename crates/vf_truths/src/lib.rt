@@ -7,8 +7,6 @@
 mod bare;
 mod examples;
 mod laws;
-#[cfg(test)]
-mod tests;
 mod truth;
 
 pub use examples::truths_in_examples;
