@@ -1,6 +1,5 @@
 -- What is owned is there, and what fits after each change of the memory.
-use Rattle.std.proofs.Common.{◌≡◌, ◌≢◌, ℕ, zero, suc, ◌<◌, Bool, true, false, cond, List, [], ◌∷◌, length, slice_get, slice_set, Option, Some, None, pos, refl, sym, ap, ap₂, subst, ◌∙◌, ◌⊎◌, inl, inr, ⊎_elim, arith}
-use Rattle.std.specs.Prelude.{IsTrue}
+use Rattle.std.proofs.Common.{◌≡◌, ◌≢◌, ℕ, zero, suc, true, false, cond, List, [], ◌∷◌, length, slice_get, slice_set, Option, Some, None, refl, sym, ap, subst, ◌∙◌, ◌⊎◌, inl, inr, arith}
 use Rattle.std.specs.Ordering.{nat_cmp, eq_by_cmp}
 use Rattle.std.specs.Cmp.{nat_cmp_total}
 use Rattle.std.proofs.lemmas.Bool.{false≢true, cases_Bool, cases_eq}
@@ -10,13 +9,13 @@ use Rattle.std.specs.FinMap as finite
 use Rattle.vf_tree.specs.Core.{Identity}
 use Rattle.vf_model.specs.Values.{Dyadic, Value, same_identity}
 use Rattle.vf_model.specs.Values as values
-use Rattle.vf_model.specs.Memory.{Memory, Block, Struct, Ints, Mutex, Handle, Cell, block_at, cells_of, with_cells, written, written_in}
-use Rattle.vf_meaning.specs.Fractions.{nought, whole, sum, IsPositive, AtMost}
-use Rattle.vf_meaning.specs.Parts.{Location, FieldCell, IndexCell, StructBlock, IntBlock, MutexAt, HeldAt, HandleAt, Content, CellOf, Bare, LengthOf, MutexOf, HeldOf, HandleOf, block_of, same_location, Part, nothing, single, ◌⊕◌, IsSum, HasNone, HasJust}
-use Rattle.vf_meaning.specs.Fits.{cell_content, there, HasThere, HoldsMutex, FitsMutex, FitsHeld, FitsHandle, FitsAt, Fits}
-use Rattle.vf_meaning.specs.FitLaws.{cell, FieldsAreThere, IndexesAreThere, StructsAreThere, IntBlocksAreThere, MutexesAreThere, HeldAreThere, HandlesAreThere, FitTogether, FieldsAreWritten, IndexesAreWritten, IsAllOf, IsNotHeld, BlocksAreAdded, BlocksAreFreed, MutexesAreAcquired, MutexesAreReleased}
+use Rattle.vf_model.specs.Memory.{Memory, Block, Struct, Ints, Mutex, Handle, block_at, written, written_in}
+use Rattle.vf_meaning.specs.Fractions.{nought, whole, sum, IsPositive}
+use Rattle.vf_meaning.specs.Parts.{Location, FieldCell, IndexCell, StructBlock, IntBlock, MutexAt, HeldAt, HandleAt, Content, CellOf, Bare, LengthOf, MutexOf, HeldOf, HandleOf, block_of, same_location, Part, single, ◌⊕◌, IsSum, HasNone, HasJust}
+use Rattle.vf_meaning.specs.Fits.{cell_content, HasThere, HoldsMutex, FitsMutex, FitsHeld, FitsHandle, FitsAt, Fits}
+use Rattle.vf_meaning.specs.FitLaws.{cell, FieldsAreThere, IndexesAreThere, StructsAreThere, IntBlocksAreThere, MutexesAreThere, HeldAreThere, HandlesAreThere, FieldsAreWritten, IndexesAreWritten, IsNotHeld, BlocksAreAdded, BlocksAreFreed, MutexesAreAcquired, MutexesAreReleased}
 use Rattle.vf_meaning.proofs.Fractions.{sum_commutes, nought_adds_nothing}
-use Rattle.vf_meaning.proofs.Parts.{tells_locations, nought_or_positive, not_nought, single_here, single_only, singles_have_just_that, sums_turn, in_left, in_right, in_either, whole_is_alone, just_one, same_or_not, ⊕-at, sum_at}
+use Rattle.vf_meaning.proofs.Parts.{tells_locations, nought_or_positive, not_nought, single_here, single_only, singles_have_just_that, in_left, in_right, whole_is_alone, just_one, ⊕-at, sum_at}
 
 none_some : {A B : Type 0} {x : A} → None ≡ Some x → B
 none_some e = cc

@@ -8,6 +8,3 @@ pub mod Satisfaction
 pub mod Growth
 pub mod Joins
 pub mod ShareOuts
-mod Examples
-pub mod KeptInstances
-pub mod MemoryInstances

@@ -1,12 +1,12 @@
 -- Laws of parts that fit a memory: what is owned is there, and what fits after each change of the memory. Each is the contract of a public function with an empty body.
-use Rattle.std.specs.Prelude.{◌≡◌, ◌≢◌, ℕ, pos, cond, List, length, slice_get, slice_set, Option, Some, None}
+use Rattle.std.specs.Prelude.{◌≡◌, ◌≢◌, ℕ, List, length, slice_get, Option, Some, None}
 use Rattle.std.specs.FinMap as finite
 use Rattle.vf_tree.specs.Core.{Identity}
 use Rattle.vf_model.specs.Values.{Dyadic, Value}
 use Rattle.vf_model.specs.Values as values
 use Rattle.vf_model.specs.Memory.{Memory, Block, Struct, Ints, Mutex, Handle, Cell, block_at, written}
-use Rattle.vf_meaning.specs.Fractions.{whole, sum, IsPositive}
-use Rattle.vf_meaning.specs.Parts.{Location, FieldCell, IndexCell, StructBlock, IntBlock, MutexAt, HeldAt, HandleAt, Content, CellOf, Bare, LengthOf, MutexOf, HeldOf, HandleOf, block_of, Part, nothing, single, IsSum, HasNone}
+use Rattle.vf_meaning.specs.Fractions.{whole, IsPositive}
+use Rattle.vf_meaning.specs.Parts.{Location, FieldCell, IndexCell, StructBlock, IntBlock, MutexAt, HeldAt, HandleAt, Content, CellOf, Bare, LengthOf, MutexOf, HeldOf, HandleOf, block_of, Part, single, IsSum, HasNone}
 use Rattle.vf_meaning.specs.Fits.{FitsAt, Fits}
 
 -- a cell of a block

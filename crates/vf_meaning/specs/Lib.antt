@@ -19,5 +19,3 @@ pub mod SatisfactionLaws
 pub mod ShareOuts
 pub mod ShareOutLaws
 pub mod Kept
-pub mod MemoryInstances
-pub mod KeptInstances

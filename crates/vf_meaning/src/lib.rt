@@ -8,7 +8,6 @@
 mod fit_laws;
 mod fixpoint_laws;
 mod fraction_laws;
-mod instances;
 mod part_laws;
 mod satisfaction_laws;
 mod share_out_laws;
@@ -25,10 +24,6 @@ pub use fraction_laws::{
     order_is_total, order_is_transitive, product_associates, product_commutes, product_distributes,
     reduces_to_its_value, stays_positive, sum_associates, sum_commutes, tells_order,
     whole_scales_nothing,
-};
-pub use instances::{
-    calls_are_kept, endless_means_nothing, free_mutex_is_meant, handle_is_meant,
-    held_mutex_is_meant, ints_are_meant, struct_is_meant,
 };
 pub use part_laws::{
     fitting_is_at_most_whole, fitting_is_consistent, nothing_fits_empty, nothing_is_neutral,

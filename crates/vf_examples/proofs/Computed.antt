@@ -5,7 +5,7 @@ use Rattle.vf_tree.specs.Core.{Identity, Add, Divide, Remainder, Equal}
 use Rattle.vf_model.specs.Values.{Whole, Odd, Value, none, more}
 use Rattle.vf_model.specs.Values as values
 use Rattle.vf_meaning.specs.Fractions.{sum, product, half}
-use Rattle.vf_meaning.specs.Ghost.{Numbered, GhostExpression, no_expressions, and_expression, FixpointTree, Switches}
+use Rattle.vf_meaning.specs.Ghost.{Numbered, no_expressions, and_expression, FixpointTree, Switches}
 use Rattle.vf_meaning.specs.Ghost as ghost
 use Rattle.vf_meaning.specs.Valuations.{of_arguments}
 use Rattle.vf_meaning.specs.GhostValues.{Interpretation, value_of, interpreted}

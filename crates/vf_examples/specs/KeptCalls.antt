@@ -2,18 +2,16 @@
 use Rattle.std.specs.Prelude.{◌≡◌, ℕ, true, false, Bool, ◌||◌, ◌&&◌, cond, pos, List, [], ◌∷◌, Option, Some, None, codes}
 use Rattle.vf_base.specs.declared.place.Place.{Place}
 use Rattle.vf_base.specs.declared.int_type.IntType.TheVariants as types
-use Rattle.vf_tree.specs.Core.{Identity, Void, Integer, PointerToVoid, Signature, Call, CallPointer, Return, FunctionTree, ProgramTree}
+use Rattle.vf_tree.specs.Core.{Identity, Void, Integer, PointerToVoid, Call, CallPointer, Return, FunctionTree, ProgramTree}
 use Rattle.vf_tree.specs.Core as core
 use Rattle.vf_model.specs.declared.words.Event.{Event}
 use Rattle.vf_model.specs.declared.words.Outcome.TheVariants as outcomes
-use Rattle.vf_model.specs.Values.{Dyadic, Values, same_identity}
+use Rattle.vf_model.specs.Values.{same_identity}
 use Rattle.vf_model.specs.Values as values
 use Rattle.vf_model.specs.PreludeFunctions.{ThreadStart, identity_of, run_signature, taking}
 use Rattle.vf_model.specs.Runs.{reach, outcome_of}
 use Rattle.vf_meaning.specs.Ghost as ghost
-use Rattle.vf_meaning.specs.Assertions.{Pure, Chunk, Times, Named, BodyName, ContractTree, Environment}
-use Rattle.vf_meaning.specs.Parts.{Part}
-use Rattle.vf_meaning.specs.Satisfaction.{MeansAt}
+use Rattle.vf_meaning.specs.Assertions.{Pure, ContractTree, Environment}
 use Rattle.vf_meaning.specs.Kept.{Promise, before, CallsPointer, StartsThread, ReturnsFrom, Kept}
 
 -- a place in the file
@@ -97,13 +95,3 @@ pub record CallsAreKept : Type 0 where
   pub starts : StartsThread program (before program events 2) (record { thread = 0; grant = 1 }) the_start
   pub ends : ReturnsFrom program events 2 the_start 3 None
   pub outcome : outcome_of program (reach program events) ≡ outcomes.Returned (pos 0)
-
--- `predicate endless() = endless();`
-abbrev pub endless : Environment
-endless = record environment {
-  bodies = λ b. Some (record { sorts = []; parameters = 0; assertion = Chunk (Times (values.Whole 1) []) (Named (codes "two.c#endless")) [] });
-}
-
--- a predicate that is only itself means nothing, at any depth: predicates are the least fixed point of their bodies
-abbrev pub EndlessMeansNothing : Type 0
-EndlessMeansNothing = (n : ℕ) (s : Dyadic) (b : BodyName) (vs : Values) (p : Part) → MeansAt endless n s b vs p → ⊥

@@ -8,14 +8,14 @@ use Rattle.std.specs.Cmp.Lexicographic.{bytes_decides}
 use Rattle.vf_base.specs.declared.place.Place.{Place}
 use Rattle.vf_tree.specs.Core.{Identity, Signature, ExpressionTree, StepTree, Call, CallPointer, Return, FunctionTree, ProgramTree}
 use Rattle.vf_model.specs.declared.words.Event.{Event}
-use Rattle.vf_model.specs.Values.{Value, Values}
+use Rattle.vf_model.specs.Values.{Value}
 use Rattle.vf_model.specs.Values as values
 use Rattle.vf_model.specs.Memory.{Memory, Block, block_at}
 use Rattle.vf_model.specs.State.{Frame, State}
 use Rattle.vf_model.specs.Evaluation.{Evaluated, Gives, evaluate, evaluate_all}
 use Rattle.vf_model.specs.Races.{next_touch}
 use Rattle.vf_meaning.specs.Fractions.{whole}
-use Rattle.vf_meaning.specs.Ghost.{Name, Numbered, Result, This, CurrentThread, Sort}
+use Rattle.vf_meaning.specs.Ghost.{Numbered, Result, This, CurrentThread, Sort}
 use Rattle.vf_meaning.specs.Ghost as ghost
 use Rattle.vf_meaning.specs.Valuations.{Valuation, no_value, in_row, count, value_at}
 use Rattle.vf_meaning.specs.Assertions.{Pure, Environment}
@@ -25,7 +25,7 @@ use Rattle.vf_meaning.specs.Fits.{Fits}
 use Rattle.vf_meaning.specs.Satisfaction.{Satisfies}
 use Rattle.vf_meaning.specs.ShareOuts.{ShareOut, SumsTo, IsShareOut}
 use Rattle.vf_meaning.specs.Kept.{before, depth, with_result, IsAt, Promise, CallsPointer, StartsThread, StartsWith, IsKept, Kept}
-use Rattle.vf_meaning.specs.KeptInstances.{callback, thread_run, called_function, run_function, main_function, program, truth, claims, environment, events, CallsAreKept, EndlessMeansNothing}
+use Rattle.vf_examples.specs.KeptCalls.{callback, thread_run, called_function, run_function, main_function, program, truth, claims, environment, events, CallsAreKept}
 use Rattle.vf_meaning.proofs.Parts.{nothing_is_neutral, nothing_fits_empty}
 
 none_some : {A B : Type 0} {x : A} → None ≡ Some x → B
@@ -365,8 +365,3 @@ calls_are_kept = record {
   };
   outcome = refl;
 }
-
--- ---- predicate endless() = endless()
-pub endless_means_nothing : EndlessMeansNothing
-endless_means_nothing zero s b vs p h = absurd h
-endless_means_nothing (suc n) s b vs p h = endless_means_nothing n _ _ _ p (h.satisfies).2.2

@@ -1,0 +1,3 @@
+mod Computed
+pub mod HeldMutex
+pub mod KeptCalls

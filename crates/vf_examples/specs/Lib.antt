@@ -1,0 +1,2 @@
+pub mod HeldMutex
+pub mod KeptCalls

@@ -1,5 +1,0 @@
-use Rattle.vf_meaning.proofs.MemoryInstances.{held_mutex_is_meant}
-use Rattle.vf_meaning.proofs.instances.held_mutex_is_meant.Goals as goal
-
-pub returns : goal.returns
-returns c = held_mutex_is_meant
