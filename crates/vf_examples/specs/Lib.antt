@@ -1,2 +1,4 @@
 pub mod HeldMutex
 pub mod KeptCalls
+pub mod TwoLemmas
+pub mod Nesting

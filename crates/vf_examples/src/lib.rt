@@ -6,5 +6,7 @@
 #![tactic(auto)]
 
 mod instances;
+mod lemmas;
 
 pub use instances::{calls_are_kept, held_mutex_is_meant};
+pub use lemmas::{lemmas_are_accepted, nesting_is_accepted};

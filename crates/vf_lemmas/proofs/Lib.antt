@@ -8,9 +8,4 @@ pub mod Around
 pub mod Calls
 pub mod Bodies
 pub mod Accepted
-pub mod Reopened
-pub mod Walked
-pub mod Examples
-pub mod Nested
 pub mod Openings
-pub mod Visited

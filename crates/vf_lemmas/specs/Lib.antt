@@ -2,7 +2,4 @@ pub mod Depths
 pub mod Proves
 pub mod Laws
 pub mod Calls
-pub mod Example
-pub mod Nesting
 pub mod Openings
-pub mod Visiting

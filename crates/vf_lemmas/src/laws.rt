@@ -1,11 +1,8 @@
 //! Laws of accepted lemmas. Each function does nothing; its contract is the law.
 
 ghost use Rattle.vf_lemmas.specs.Calls.{AssertingIsProved, CallingKeeps, ComponentsAreSmaller};
-ghost use Rattle.vf_lemmas.specs.Example.{LemmasAreAccepted};
 ghost use Rattle.vf_lemmas.specs.Laws.{AcceptedLemmasHold};
-ghost use Rattle.vf_lemmas.specs.Nesting.{NestingIsAccepted};
 ghost use Rattle.vf_lemmas.specs.Openings.{OpeningGoesLower};
-ghost use Rattle.vf_lemmas.specs.Visiting.{VisitingIsAccepted};
 
 /// Each accepted lemma gives, from every part of memory that satisfies its precondition, a part not
 /// greater that satisfies its postcondition; the difference is leaked, and is nothing where it does not leak.
@@ -23,16 +20,6 @@ pub fn components_are_smaller()
     ensures { ComponentsAreSmaller }
 {}
 
-/// A lemma that opens a predicate and closes it again, and one that calls itself with the rest of a list, are accepted.
-pub fn lemmas_are_accepted()
-    ensures { LemmasAreAccepted }
-{}
-
-/// A lemma is accepted that calls itself with what is inside of its precondition's first part, a predicate without memory.
-pub fn nesting_is_accepted()
-    ensures { NestingIsAccepted }
-{}
-
 /// `assert` in a lemma's body: an assertion is consumed, and then the chunks are as before.
 pub fn asserting_is_proved()
     ensures { AssertingIsProved }
@@ -41,9 +28,4 @@ pub fn asserting_is_proved()
 /// Where the whole of a predicate's chunk is opened, what is in the predicate's body holds less deep.
 pub fn opening_goes_lower()
     ensures { OpeningGoesLower }
-{}
-
-/// A lemma is accepted that goes through a chain of structs by calling itself where a whole cell is left.
-pub fn visiting_is_accepted()
-    ensures { VisitingIsAccepted }
 {}

@@ -8,5 +8,5 @@ mod laws;
 
 pub use laws::{
     accepted_lemmas_hold, asserting_is_proved, calling_keeps, components_are_smaller,
-    lemmas_are_accepted, nesting_is_accepted, opening_goes_lower, visiting_is_accepted,
+    opening_goes_lower,
 };

@@ -24,7 +24,7 @@ use Rattle.vf_rules.proofs.Takes.{same_value}
 use Rattle.vf_rules.proofs.Cases.{empty_cases_hold}
 use Rattle.vf_rules.specs.Lemmas.{LemmaTree}
 use Rattle.vf_lemmas.specs.Proves.{IsSmaller, smaller_argument, Proves, may_end, may_know, may_call, IsAcceptedLemma, with_all}
-use Rattle.vf_lemmas.specs.Example.{list_name, nil_name, cons_name, lemma_environment, no_program, cases_of_list, sorts_of_cases, reopen, walk}
+use Rattle.vf_examples.specs.TwoLemmas.{list_name, nil_name, cons_name, lemma_environment, no_program, cases_of_list, sorts_of_cases, reopen, walk}
 
 some_same : {A : Type 0} {x y : A} → Some x ≡ Some y → x ≡ y
 some_same e = cc

@@ -1,9 +1,9 @@
 -- The lemmas of the example are accepted.
 use Rattle.std.proofs.Common.{◌≡◌, zero, suc, [], ◌∷◌, Some, None, subst}
 use Rattle.vf_lemmas.specs.Proves.{IsAcceptedLemma}
-use Rattle.vf_lemmas.specs.Example.{lemma_environment, no_program, reopen, walk, LemmasAreAccepted}
-use Rattle.vf_lemmas.proofs.Reopened.{reopen_is_accepted}
-use Rattle.vf_lemmas.proofs.Walked.{walk_is_accepted}
+use Rattle.vf_examples.specs.TwoLemmas.{lemma_environment, no_program, reopen, walk, LemmasAreAccepted}
+use Rattle.vf_examples.proofs.Reopened.{reopen_is_accepted}
+use Rattle.vf_examples.proofs.Walked.{walk_is_accepted}
 
 some_same : {A : Type 0} {x y : A} → Some x ≡ Some y → x ≡ y
 some_same e = cc

@@ -31,8 +31,8 @@ use Rattle.vf_rules.proofs.Takes.{equal_met}
 use Rattle.vf_rules.specs.Lemmas.{LemmaTree}
 use Rattle.vf_lemmas.specs.Depths.{Aside, takes_first, Inside, OpensInto, IsFirst}
 use Rattle.vf_lemmas.specs.Proves.{Proves, may_end, may_open, may_split, may_put_back, may_open_aside, may_call_inside, IsAcceptedLemma, with_first_aside}
-use Rattle.vf_lemmas.specs.Example.{no_program}
-use Rattle.vf_lemmas.specs.Nesting.{nested, one_less, is_nested, nested_body, nesting, not_negative, NestingIsAccepted}
+use Rattle.vf_examples.specs.TwoLemmas.{no_program}
+use Rattle.vf_examples.specs.Nesting.{nested, one_less, is_nested, nested_body, nesting, not_negative, NestingIsAccepted}
 use Rattle.vf_lemmas.specs.Openings.{ComesTo}
 use Rattle.vf_lemmas.proofs.Asides.{neutral}
 use Rattle.vf_lemmas.proofs.Openings.{opening_goes_lower}

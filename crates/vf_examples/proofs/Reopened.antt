@@ -15,7 +15,7 @@ use Rattle.vf_rules.specs.Accept.{all_of_it, call_store, parameter_symbols}
 use Rattle.vf_rules.proofs.Takes.{equal_met}
 use Rattle.vf_rules.specs.Lemmas.{LemmaTree}
 use Rattle.vf_lemmas.specs.Proves.{Proves, may_end, may_open, may_close, IsAcceptedLemma, with_all}
-use Rattle.vf_lemmas.specs.Example.{content, boxed, boxed_body, lemma_environment, no_program, reopen, walk}
+use Rattle.vf_examples.specs.TwoLemmas.{content, boxed, boxed_body, lemma_environment, no_program, reopen, walk}
 
 some_same : {A : Type 0} {x y : A} → Some x ≡ Some y → x ≡ y
 some_same e = cc

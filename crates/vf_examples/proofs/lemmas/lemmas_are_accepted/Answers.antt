@@ -1,0 +1,5 @@
+use Rattle.vf_examples.proofs.TwoLemmas.{lemmas_are_accepted}
+use Rattle.vf_examples.proofs.lemmas.lemmas_are_accepted.Goals as goal
+
+pub returns : goal.returns
+returns c = lemmas_are_accepted

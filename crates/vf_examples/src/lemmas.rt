@@ -1,0 +1,14 @@
+//! Lemmas that are accepted. Each function does nothing; its contract is the example.
+
+ghost use Rattle.vf_examples.specs.Nesting.{NestingIsAccepted};
+ghost use Rattle.vf_examples.specs.TwoLemmas.{LemmasAreAccepted};
+
+/// A lemma that opens a predicate and closes it again, and one that calls itself with the rest of a list, are accepted.
+pub fn lemmas_are_accepted()
+    ensures { LemmasAreAccepted }
+{}
+
+/// A lemma is accepted that calls itself with what is inside of its precondition's first part, a predicate without memory.
+pub fn nesting_is_accepted()
+    ensures { NestingIsAccepted }
+{}
