@@ -5,3 +5,16 @@ pub mod Reopened
 pub mod Walked
 pub mod TwoLemmas
 pub mod Nested
+pub mod Boxed
+pub mod Counted
+pub mod NewSymbols
+pub mod SharingFacts
+pub mod SharedTick
+pub mod SharedStates
+pub mod SharedClaim
+pub mod EverythingLoop
+pub mod EverythingEnd
+pub mod EverythingMain
+pub mod Unsafe
+pub mod NoLeaks
+pub mod Leaving

@@ -4,7 +4,7 @@ use Rattle.std.proofs.lemmas.Int.{ints}
 use Rattle.std.specs.Prelude.{IsTrue, int_le, Contains}
 use Rattle.std.specs.Bool.{MatchBool}
 use Rattle.vf_tree.specs.Core.{Subtract, Equal, LessEqual}
-use Rattle.vf_model.specs.Values.{Dyadic, Value, Values}
+use Rattle.vf_model.specs.Values.{Value}
 use Rattle.vf_model.specs.Values as values
 use Rattle.vf_meaning.specs.Fractions.{whole, product}
 use Rattle.vf_meaning.specs.Ghost.{Name, Integers, Numbered, Result, This, CurrentThread, Number, Arithmetic, Compare, Not, Fraction, Share}

@@ -2,3 +2,10 @@ pub mod HeldMutex
 pub mod KeptCalls
 pub mod TwoLemmas
 pub mod Nesting
+pub mod BoxProgram
+pub mod Counting
+pub mod Sharing
+pub mod Everything
+pub mod Refused
+pub mod NoLeaks
+pub mod Leaving

@@ -1,12 +1,17 @@
 //! Examples: definitions that are not empty, and what the rules accept and refuse.
 //!
-//! They stand above the definitions and the rules that they are of, so that none of them is proved again
-//! where a crate beside this one changes. The definitions stand in `specs/`; the code here is public
-//! functions with an empty body, each of which has an example as its contract.
+//! They stand above the definitions and the rules that they are of, and nothing stands on them. The
+//! definitions stand in `specs/`; the code here is public functions with an empty body, each of which
+//! has an example as its contract.
 #![tactic(auto)]
 
 mod instances;
 mod lemmas;
+mod programs;
 
 pub use instances::{calls_are_kept, held_mutex_is_meant};
 pub use lemmas::{lemmas_are_accepted, nesting_is_accepted};
+pub use programs::{
+    box_is_accepted, counting_is_accepted, everything_is_accepted, examples_leak_nothing,
+    leaving_is_accepted, unsafe_are_refused,
+};

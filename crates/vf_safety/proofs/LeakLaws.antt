@@ -17,13 +17,9 @@ use Rattle.vf_meaning.specs.ShareOuts.{ShareOut, SumsTo, parts_of, IsHandleOf, I
 use Rattle.vf_meaning.specs.Kept.{before, LeaksNext, Kept}
 use Rattle.vf_meaning.proofs.Parts.{nothing-⊕, in_either, not_nought}
 use Rattle.vf_meaning.proofs.FitSteps.{own_identity}
-use Rattle.vf_safety.specs.LeakLaws.{LeaksNowhere, NothingIsLeaked, OthersHaveEnded, IsThere, Has, LiesIn, in_main, in_ended, in_mutex, NothingIsLost, NoBlockIsLeft, ExamplesLeakNothing}
+use Rattle.vf_safety.specs.LeakLaws.{LeaksNowhere, NothingIsLeaked, OthersHaveEnded, IsThere, Has, LiesIn, in_main, in_ended, in_mutex, NothingIsLost, NoBlockIsLeft}
 use Rattle.vf_safety.proofs.Listed.{IsNumberOf, there_number, long_enough}
 use Rattle.vf_safety.proofs.Programs.{accepted_programs_are_safe}
-use Rattle.vf_safety.proofs.Worked.{box_is_accepted}
-use Rattle.vf_safety.proofs.Counted.{counting_is_accepted}
-use Rattle.vf_safety.proofs.Paired.{pair_is_accepted}
-use Rattle.vf_safety.proofs.SharedMain.{sharing_is_accepted}
 
 positive_whole : IsPositive whole
 positive_whole = omega arith
@@ -223,12 +219,3 @@ no_block_is_left e p accepted none last events j result r ended shared b = by_bl
         nobody (in_main has) nothing_there = none_of_nothing _ _ has.0 nothing_there has.1
         nobody (in_ended t c other has_ended handle has) nothing_there = shared.handleless c t handle
         nobody (in_mutex c free has) nothing_there = shared.mutexless c free
-
--- ---- the examples
-pub examples_leak_nothing : ExamplesLeakNothing
-examples_leak_nothing = record {
-  box = nothing_is_leaked _ _ box_is_accepted (λ number f n is. refl);
-  counting = nothing_is_leaked _ _ counting_is_accepted (λ number f n is. refl);
-  sharing = nothing_is_leaked _ _ sharing_is_accepted (λ number f n is. refl);
-  pair = nothing_is_leaked _ _ pair_is_accepted (λ number f n is. refl);
-}

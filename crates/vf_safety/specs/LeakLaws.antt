@@ -14,10 +14,6 @@ use Rattle.vf_meaning.specs.ShareOuts.{ShareOut, Ended, IsHandleOf}
 use Rattle.vf_meaning.specs.Kept.{before, depth, Returns, Ensures, Kept}
 use Rattle.vf_safety.specs.Safe.{IsHandle}
 use Rattle.vf_safety.specs.Laws.{IsAcceptedProgram}
-use Rattle.vf_safety.specs.Counting.{counting_program, counting_environment}
-use Rattle.vf_safety.specs.Example.{box_program, box_environment}
-use Rattle.vf_safety.specs.Pair.{pair_program, pair_environment}
-use Rattle.vf_safety.specs.Sharing.{sharing_program, sharing_environment}
 
 -- no leak stands anywhere in a program: before no step of any of its functions
 abbrev pub LeaksNowhere : Environment → ProgramTree → Type 0
@@ -88,10 +84,3 @@ abbrev pub NoBlockIsLeft : Type 0
 NoBlockIsLeft =
     (e : Environment) (p : ProgramTree) → IsAcceptedProgram e p → LeaksNowhere e p → OwnsNothingAtLast e p → (events : List Event) (j : ℕ) (result : Option Value)
     → MainReturns p events j result → OthersHaveEnded (before p events (suc j)) → HasNoneShared (before p events (suc j)) → (b : ℕ) → block_at (before p events (suc j)).memory b ≡ None
-
--- in these examples no leak stands: so nothing is leaked in them
-pub record ExamplesLeakNothing : Type 0 where
-  pub box : (events : List Event) → KeptUnleaked box_environment box_program events
-  pub counting : (events : List Event) → KeptUnleaked counting_environment counting_program events
-  pub sharing : (events : List Event) → KeptUnleaked sharing_environment sharing_program events
-  pub pair : (events : List Event) → KeptUnleaked pair_environment pair_program events

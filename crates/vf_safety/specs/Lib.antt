@@ -1,11 +1,4 @@
 pub mod Safe
 pub mod Laws
-pub mod Example
-pub mod Pair
-pub mod Counting
-pub mod Sharing
-pub mod Everything
-pub mod Refused
 pub mod ArrayLaws
 pub mod LeakLaws
-pub mod Leaving

@@ -1,7 +1,6 @@
 //! Laws of what is leaked, and of what is left. Each function does nothing; its contract is the law.
 
-ghost use Rattle.vf_safety.specs.Leaving.{LeavingIsAccepted};
-ghost use Rattle.vf_safety.specs.LeakLaws.{ExamplesLeakNothing, NoBlockIsLeft, NothingIsLeaked, NothingIsLost};
+ghost use Rattle.vf_safety.specs.LeakLaws.{NoBlockIsLeft, NothingIsLeaked, NothingIsLost};
 
 /// In an accepted program in which no leak stands, in no body and no lemma that one calls, nothing is ever
 /// leaked: on every list of events it keeps what it owes with share-outs whose leaked part is empty.
@@ -19,14 +18,4 @@ pub fn nothing_is_lost()
 /// So no block is left there where main is to own nothing at its end and there is no free mutex and no handle.
 pub fn no_block_is_left()
     ensures { NoBlockIsLeft }
-{}
-
-/// In the examples with a struct, with a loop, with two threads and with an array nothing is leaked.
-pub fn examples_leak_nothing()
-    ensures { ExamplesLeakNothing }
-{}
-
-/// A program that leaks the struct that it allocates is accepted where a leak stands, and is not where none does.
-pub fn leaving_is_accepted()
-    ensures { LeavingIsAccepted }
 {}

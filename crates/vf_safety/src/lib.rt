@@ -12,12 +12,5 @@ pub use array_laws::{
     lists_are_in_order, no_cells_are_a_row, raw_rows_are_joined, raw_rows_are_split,
     rows_are_joined, rows_are_split, rows_have_lengths, unchanging_lemmas_hold,
 };
-pub use laws::{
-    accepted_calls_are_safe, accepted_programs_are_safe, accepted_threads_are_safe,
-    box_is_accepted, counting_is_accepted, everything_is_accepted, pair_is_accepted,
-    sharing_is_accepted, unsafe_are_refused,
-};
-pub use leak_laws::{
-    examples_leak_nothing, leaving_is_accepted, no_block_is_left, nothing_is_leaked,
-    nothing_is_lost,
-};
+pub use laws::{accepted_calls_are_safe, accepted_programs_are_safe, accepted_threads_are_safe};
+pub use leak_laws::{no_block_is_left, nothing_is_leaked, nothing_is_lost};

@@ -1,0 +1,39 @@
+//! Programs that are accepted, and programs that are refused. Each function does nothing; its contract is the example.
+
+ghost use Rattle.vf_examples.specs.BoxProgram.{BoxIsAccepted};
+ghost use Rattle.vf_examples.specs.Counting.{CountingIsAccepted};
+ghost use Rattle.vf_examples.specs.Everything.{EverythingIsAccepted};
+ghost use Rattle.vf_examples.specs.Leaving.{LeavingIsAccepted};
+ghost use Rattle.vf_examples.specs.NoLeaks.{ExamplesLeakNothing};
+ghost use Rattle.vf_examples.specs.Refused.{UnsafeAreRefused};
+
+/// A program that allocates a struct, writes and reads its field and frees it is accepted.
+pub fn box_is_accepted()
+    ensures { BoxIsAccepted }
+{}
+
+/// A program with a loop and a call through a pointer is accepted.
+pub fn counting_is_accepted()
+    ensures { CountingIsAccepted }
+{}
+
+/// A program with a loop over a list in the heap, a recursive predicate, and a mutex that two threads share,
+/// of which one is started and joined by the other, is accepted.
+pub fn everything_is_accepted()
+    ensures { EverythingIsAccepted }
+{}
+
+/// A program that comes to a fault and one that comes to a race are accepted in no environment.
+pub fn unsafe_are_refused()
+    ensures { UnsafeAreRefused }
+{}
+
+/// In the examples with a struct, and with a loop and a call through a pointer, nothing is leaked.
+pub fn examples_leak_nothing()
+    ensures { ExamplesLeakNothing }
+{}
+
+/// A program that leaks the struct that it allocates is accepted where a leak stands, and is not where none does.
+pub fn leaving_is_accepted()
+    ensures { LeavingIsAccepted }
+{}
