@@ -4,13 +4,13 @@ use Rattle.std.specs.Prelude.{IsFalse, is_some}
 use Rattle.std.specs.FinMap as finite
 use Rattle.std.proofs.lemmas.Bool.{false≢true, cases_Bool, cases_eq}
 use Rattle.vf_base.specs.declared.place.Place.{Place}
-use Rattle.vf_tree.specs.Core.{Identity, ExpressionTree, Allocate, Free, ProgramTree}
+use Rattle.vf_tree.specs.Core.{Identity, ExpressionTree, Free, ProgramTree}
 use Rattle.vf_model.specs.Values.{Dyadic, Value, same_identity}
 use Rattle.vf_model.specs.Values as values
 use Rattle.vf_model.specs.Memory.{Memory, Block, Struct, Cell, block_at, cells_at, granted_block, unset_cells}
-use Rattle.vf_model.specs.State.{Frame, Thread, State, Turn, at_step, with_local, with_frames, over_memory, goes_on}
+use Rattle.vf_model.specs.State.{Frame, Thread, State, Turn, at_step, with_frames, over_memory, goes_on}
 use Rattle.vf_model.specs.Evaluation.{Gives, evaluate}
-use Rattle.vf_model.specs.Acts.{Goes, Touches, Allocates, given}
+use Rattle.vf_model.specs.Acts.{Goes, Touches, given}
 use Rattle.vf_model.specs.Accesses.{field_count, new_struct, frees_block, frees}
 use Rattle.vf_model.specs.Memory.{is_struct_block}
 use Rattle.vf_model.specs.Races.{TouchesCell}
@@ -222,13 +222,6 @@ struct_added p m b g q f fit free owns =
     blocks_are_added m b (new_struct p g) q f fit free
     (all_of_struct (λ h. h ≡ None) q b g (field_count p g) (unset_cells (field_count p g)) owns (unset_long (field_count p g))
     (λ j held l is just. unset_at (field_count p g) j l ∙ ap Some (sym is)))
-
--- the act of an allocation
-pub allocate_act : (p : ProgramTree) (s : State) (t : ℕ) (frame : Frame) (callers : Thread) (x : ℕ) (g : Identity) (next : ℕ)
-    → act_of p (turn_of s t frame callers) (Allocate x g next)
-    ≡ Allocates (with_frames (turn_of s t frame callers) (at_step (with_local frame x values.Null) next ∷ callers))
-    (λ b. with_frames (over_memory (turn_of s t frame callers) (finite.insert s.memory b (new_struct p g))) (at_step (with_local frame x (start_of b)) next ∷ callers))
-allocate_act p s t frame callers x g next = refl
 
 -- ---- release
 -- a struct that is owned is there, with its cells

@@ -33,9 +33,6 @@ some_same e = cc
 none_some : {A B : Type 0} {x : A} → None ≡ Some x → B
 none_some e = cc
 
-number_same : {y z : ℤ} → values.Number y ≡ values.Number z → y ≡ z
-number_same h = cc
-
 -- ---- the chunk of a row
 -- what the chunk of a row says of a part
 pub record RowOwned (e : Environment) (v : Valuation) (u long : Term) (content : Option Term) (x : Dyadic) (q : Part) : Type 0 where

@@ -39,9 +39,6 @@ positive_whole = omega arith
 some_same : {A : Type 0} {x y : A} → Some x ≡ Some y → x ≡ y
 some_same e = cc
 
-none_some : {A B : Type 0} {x : A} → None ≡ Some x → B
-none_some e = cc
-
 length_same : {m n : ℕ} → LengthOf m ≡ LengthOf n → m ≡ n
 length_same e = cc
 

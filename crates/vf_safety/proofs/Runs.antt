@@ -32,9 +32,6 @@ some_none e = cc
 some_same : {A : Type 0} {x y : A} → Some x ≡ Some y → x ≡ y
 some_same e = cc
 
-cons_nil : {A B : Type 0} {x : A} {xs : List A} → x ∷ xs ≡ [] → B
-cons_nil e = cc
-
 module _ (e : Environment) (p : ProgramTree) (duty : Duty) where
   pub one_more : (s : State) (events : List Event) (k : ℕ) (event : Event) → slice_get events k ≡ Some event → fold (after p) s (take (suc k) events) ≡ after p (fold (after p) s (take k events)) event
   one_more s [] k event is = none_some is

@@ -41,11 +41,6 @@ set_other (x ∷ xs) zero (suc j) y h = refl
 set_other (x ∷ xs) (suc i) zero y h = refl
 set_other (x ∷ xs) (suc i) (suc j) y h = set_other xs i j y (λ e. h (ap suc e))
 
-pub set_length : {A : Type 0} (xs : List A) (i : ℕ) (y : A) → length (slice_set xs i y) ≡ length xs
-set_length [] i y = refl
-set_length (x ∷ xs) zero y = refl
-set_length (x ∷ xs) (suc i) y = ap suc (set_length xs i y)
-
 -- ---- where a thread is
 pub record Here (p : ProgramTree) (s : State) (t : ℕ) (f : FunctionTree) (frame : Frame) (callers : Thread) (step : StepTree) : Type 0 where
   pub going : s.end ≡ None

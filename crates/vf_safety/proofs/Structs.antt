@@ -90,9 +90,6 @@ owns_cell P r p q b g i n held ph is s h = record {
     upper : (i n j : ℕ) → j < suc i + n → j < i + suc n
     upper i n j k = omega (arith, k)
 
-none_some : {A B : Type 0} {x : A} → None ≡ Some x → B
-none_some e = cc
-
 past : {A : Type 0} (xs : List A) (j : ℕ) → length xs ≤ j → slice_get xs j ≡ None
 past [] j l = refl
 past (x ∷ xs) zero l = absurd (no (length xs) l)

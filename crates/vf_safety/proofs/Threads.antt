@@ -263,9 +263,6 @@ joinable_type : (starter type : Identity) → StartsWith starter type → prelud
 joinable_type _ _ plain h = absurd (not_plain h)
 joinable_type _ _ joinable h = refl
 
-run_void : run_signature.result ≡ Void
-run_void = refl
-
 module _ (e : Environment) (p : ProgramTree) (t : ℕ) (duties : Duties) (S : ℕ → Duties → Thread → Part → Type 0) where
   -- a thread that is started in a function which claims a type is safe with a part that satisfies the type's precondition
   abbrev pub ThreadsBegin : Type 0

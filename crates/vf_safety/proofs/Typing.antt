@@ -26,9 +26,6 @@ use Rattle.vf_rules.proofs.Evaluates.{number_sort}
 some_same : {A : Type 0} {x y : A} → Some x ≡ Some y → x ≡ y
 some_same e = cc
 
-none_some : {A B : Type 0} {x : A} → None ≡ Some x → B
-none_some e = cc
-
 -- ---- sorts of values
 other_sort : {A : Type 0} (s r : Sort) → (s ≡ r → ⊥) → (r ≡ ghost.Anything → ⊥) → (r ≡ s) ⊎ (r ≡ ghost.Anything) → A
 other_sort s r h k m = ⊎_elim (λ e. absurd (h (sym e))) (λ e. absurd (k e)) m
