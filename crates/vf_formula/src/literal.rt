@@ -23,20 +23,40 @@ pub enum Literal {
     False,
 }
 
+/// Two terms again.
+fn both(alloc: Global, a: &Term, b: &Term) -> Result<(Term, Term), Memory>
+    ensures { IfOk result (λ p. p ≡ (a.now, b.now)) }
+{
+    let first = a.copy(alloc)?;
+    let second = b.copy(alloc)?;
+    Ok((first, second))
+}
+
 impl Literal {
     /// The same literal again.
     pub fn copy(&self, alloc: Global) -> Result<Literal, Memory>
         ensures { IfOk result (λ l. l ≡ self.now) }
     {
         match self {
-            Literal::Equal(a, b) => Ok(Literal::Equal(a.copy(alloc)?, b.copy(alloc)?)),
-            Literal::NotEqual(a, b) => Ok(Literal::NotEqual(a.copy(alloc)?, b.copy(alloc)?)),
-            Literal::AtMost(p, n, c) => Ok(Literal::AtMost(p.copy(alloc)?, n.copy(alloc)?, *c)),
+            Literal::Equal(a, b) => {
+                let (a, b) = both(alloc, a, b)?;
+                Ok(Literal::Equal(a, b))
+            }
+            Literal::NotEqual(a, b) => {
+                let (a, b) = both(alloc, a, b)?;
+                Ok(Literal::NotEqual(a, b))
+            }
+            Literal::AtMost(p, n, c) => {
+                let (p, n) = both(alloc, p, n)?;
+                Ok(Literal::AtMost(p, n, *c))
+            }
             Literal::Difference(p, n, c) => {
-                Ok(Literal::Difference(p.copy(alloc)?, n.copy(alloc)?, *c))
+                let (p, n) = both(alloc, p, n)?;
+                Ok(Literal::Difference(p, n, *c))
             }
             Literal::NotDifference(p, n, c) => {
-                Ok(Literal::NotDifference(p.copy(alloc)?, n.copy(alloc)?, *c))
+                let (p, n) = both(alloc, p, n)?;
+                Ok(Literal::NotDifference(p, n, *c))
             }
             Literal::False => Ok(Literal::False),
         }

@@ -66,6 +66,38 @@ impl Model for TermList {
     ghost size_decreases = { λ l h. Prim.omega (arith, most_le-size_of_row l.items.items) };
 }
 
+/// One term in a row.
+fn one(alloc: Global, a: Term) -> Result<TermList, Memory>
+    ensures { IfOk result (λ l. l ≡ a ∷ []) }
+{
+    let mut parts = TermList::new(alloc);
+    parts.push(a)?;
+    Ok(parts)
+}
+
+/// Terms in a row and one more.
+fn and(parts: TermList, a: Term) -> Result<TermList, Memory>
+    ensures { IfOk result (λ l. l ≡ parts ++ a ∷ []) }
+{
+    let mut all = parts;
+    all.push(a)?;
+    Ok(all)
+}
+
+/// Two terms in a row.
+fn two(alloc: Global, a: Term, b: Term) -> Result<TermList, Memory>
+    ensures { IfOk result (λ l. l ≡ a ∷ b ∷ []) }
+{
+    and(one(alloc, a)?, b)
+}
+
+/// Three terms in a row.
+fn three(alloc: Global, a: Term, b: Term, c: Term) -> Result<TermList, Memory>
+    ensures { IfOk result (λ l. l ≡ a ∷ b ∷ c ∷ []) }
+{
+    and(two(alloc, a, b)?, c)
+}
+
 impl Term {
     /// A head over parts.
     pub fn new(head: Head, parts: TermList) -> Term
@@ -92,30 +124,21 @@ impl Term {
     pub fn with_one(alloc: Global, head: Head, a: Term) -> Result<Term, Memory>
         ensures { IfOk result (λ t. t ≡ term (shown_head head) (and_term a no_terms)) }
     {
-        let mut parts = TermList::new(alloc);
-        parts.push(a)?;
-        Ok(Term::new(head, parts))
+        Ok(Term::new(head, one(alloc, a)?))
     }
 
     /// A head over two parts.
     pub fn with_two(alloc: Global, head: Head, a: Term, b: Term) -> Result<Term, Memory>
         ensures { IfOk result (λ t. t ≡ term (shown_head head) (and_term a (and_term b no_terms))) }
     {
-        let mut parts = TermList::new(alloc);
-        parts.push(a)?;
-        parts.push(b)?;
-        Ok(Term::new(head, parts))
+        Ok(Term::new(head, two(alloc, a, b)?))
     }
 
     /// A head over three parts.
     pub fn with_three(alloc: Global, head: Head, a: Term, b: Term, c: Term) -> Result<Term, Memory>
         ensures { IfOk result (λ t. t ≡ term (shown_head head) (and_term a (and_term b (and_term c no_terms)))) }
     {
-        let mut parts = TermList::new(alloc);
-        parts.push(a)?;
-        parts.push(b)?;
-        parts.push(c)?;
-        Ok(Term::new(head, parts))
+        Ok(Term::new(head, three(alloc, a, b, c)?))
     }
 
     /// The number that the term is, if it is one.
@@ -133,7 +156,7 @@ impl Term {
         ensures { result ≡ truth_in self.now }
     {
         match &self.head {
-            Head::Truth(truth) => Some(*truth),
+            Head::Truth(value) => Some(*value),
             _ => None,
         }
     }
