@@ -54,16 +54,13 @@ fn choice(cursor: &mut Cursor, depth: u32, place: Place, condition: Expr) -> Res
     if !cursor.sees_mark(Side::Real, Punctuator::Question) {
         return Ok(condition);
     }
-    cursor.mark(Side::Real, Punctuator::Question)?;
-    let first = expr(cursor, depth)?;
-    cursor.mark(Side::Real, Punctuator::Colon)?;
-    let second = expr(cursor, depth)?;
     let alloc = cursor.alloc;
-    let node = ExprNode::Conditional(
-        Box::new(alloc, condition)?,
-        Box::new(alloc, first)?,
-        Box::new(alloc, second)?,
-    );
+    let condition = Box::new(alloc, condition)?;
+    cursor.mark(Side::Real, Punctuator::Question)?;
+    let first = Box::new(alloc, expr(cursor, depth)?)?;
+    cursor.mark(Side::Real, Punctuator::Colon)?;
+    let second = Box::new(alloc, expr(cursor, depth)?)?;
+    let node = ExprNode::Conditional(condition, first, second);
     Ok(Expr { place, node })
 }
 
@@ -89,8 +86,13 @@ fn chain(cursor: &mut Cursor, depth: u32, below: u32) -> Result<Expr, Stop>
 {
     let place = cursor.here()?;
     let first = tier(cursor, depth, below)?;
-    let links = links(cursor, depth, below)?;
-    Ok(chained(cursor.alloc, place, nth_level(below), first, links)?)
+    match links(cursor, depth, below) {
+        Ok(links) => Ok(chained(cursor.alloc, place, nth_level(below), first, links)?),
+        Err(stop) => {
+            drop(first);
+            Err(stop)
+        }
+    }
 }
 
 /// Operators of a level with their operands.
@@ -195,8 +197,13 @@ pub fn postfix(cursor: &mut Cursor, depth: u32) -> Result<Expr, Stop>
 {
     let place = cursor.here()?;
     let first = primary(cursor, depth)?;
-    let parts = parts(cursor, depth)?;
-    Ok(posted(cursor.alloc, place, first, parts)?)
+    match parts(cursor, depth) {
+        Ok(parts) => Ok(posted(cursor.alloc, place, first, parts)?),
+        Err(stop) => {
+            drop(first);
+            Err(stop)
+        }
+    }
 }
 
 /// The parts behind an operand.
@@ -240,9 +247,16 @@ fn index(cursor: &mut Cursor, depth: u32) -> Result<Postfix, Stop>
 {
     let place = cursor.mark(Side::Real, Punctuator::OpenBracket)?;
     let at = expr(cursor, depth)?;
-    cursor.mark(Side::Real, Punctuator::CloseBracket)?;
-    let node = PostfixNode::Index(at);
-    Ok(Postfix { place, node })
+    match cursor.mark(Side::Real, Punctuator::CloseBracket) {
+        Ok(_) => {
+            let node = PostfixNode::Index(at);
+            Ok(Postfix { place, node })
+        }
+        Err(stop) => {
+            drop(at);
+            Err(stop)
+        }
+    }
 }
 
 /// The arguments of a call between their parentheses.
@@ -351,9 +365,9 @@ fn parenthesized(cursor: &mut Cursor, depth: u32) -> Result<Expr, Stop>
     ensures { Gives result cursor.new.left.now (parenthesized_at (expr_at depth) cursor.old.left.now) }
 {
     let place = cursor.mark(Side::Real, Punctuator::OpenParenthesis)?;
-    let inner = expr(cursor, depth)?;
+    let inner = Box::new(cursor.alloc, expr(cursor, depth)?)?;
     cursor.mark(Side::Real, Punctuator::CloseParenthesis)?;
-    let node = ExprNode::Parenthesized(Box::new(cursor.alloc, inner)?);
+    let node = ExprNode::Parenthesized(inner);
     Ok(Expr { place, node })
 }
 
@@ -377,14 +391,14 @@ fn malloc(cursor: &mut Cursor, depth: u32) -> Result<Expr, Stop>
 fn malloc_ints(cursor: &mut Cursor, depth: u32, place: Place) -> Result<Expr, Stop>
     ensures { Gives result cursor.new.left.now (malloc_ints_at (factor_at depth) place cursor.old.left.now) }
 {
-    let number = factor(cursor, depth)?;
+    let number = Box::new(cursor.alloc, factor(cursor, depth)?)?;
     let star = cursor.mark(Side::Real, Punctuator::Star)?;
     cursor.word(Side::Real, Keyword::Sizeof)?;
     cursor.mark(Side::Real, Punctuator::OpenParenthesis)?;
     cursor.word(Side::Real, Keyword::Int)?;
     cursor.mark(Side::Real, Punctuator::CloseParenthesis)?;
     cursor.mark(Side::Real, Punctuator::CloseParenthesis)?;
-    let node = ExprNode::MallocInts(Box::new(cursor.alloc, number)?, star);
+    let node = ExprNode::MallocInts(number, star);
     Ok(Expr { place, node })
 }
 

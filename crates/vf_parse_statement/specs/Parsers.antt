@@ -86,10 +86,22 @@ optional_first_at e f ts = unless_at (is_mark Real punctuators.Semicolon) (first
 unfoldable pub optional_step_at : Parser ExprTree → Parser ExprTree → Parser (Option Simple)
 optional_step_at e f ts = unless_at (is_mark Real punctuators.CloseParenthesis) (simple_at e f) ts
 
+-- what stands behind the condition of a `for` and its ";": [step] ")"
+unfoldable pub behind_condition_at : Parser ExprTree → Parser ExprTree → Option First → Option ExprTree → Parser Parts
+behind_condition_at e f a c ts = optional_step_at e f ts >>= λ s. mark_at Real punctuators.CloseParenthesis s.1 >>= λ x. ok (record { first = a; condition = c; step = s.0 }) x.1
+
+-- what stands behind the first part of a `for` and its ";": [expression] ";" [step] ")"
+unfoldable pub behind_first_at : Parser ExprTree → Parser ExprTree → Option First → Parser Parts
+behind_first_at e f a ts = optional_expr_at e ts >>= λ c. mark_at Real punctuators.Semicolon c.1 >>= λ n. behind_condition_at e f a c.0 n.1
+
 -- "(" [first] ";" [expression] ";" [step] ")"
 unfoldable pub head_at : Parser ExprTree → Parser ExprTree → Parser Parts
 head_at e f ts = mark_at Real punctuators.OpenParenthesis ts >>= λ o. optional_first_at e f o.1 >>= λ a. mark_at Real punctuators.Semicolon a.1 >>= λ m. optional_expr_at e m.1
     >>= λ c. mark_at Real punctuators.Semicolon c.1 >>= λ n. optional_step_at e f n.1 >>= λ s. mark_at Real punctuators.CloseParenthesis s.1 >>= λ x. ok (record { first = a.0; condition = c.0; step = s.0 }) x.1
+
+-- an `else` and the statement behind it
+unfoldable pub other_branch_at : Parser StmtTree → Place → ExprTree → StmtTree → Parser StmtTree
+other_branch_at s p c a ts = word_at Real keywords.Else ts >>= λ w. s w.1 >>= λ b. ok (tree.if_else p c a b.0) b.1
 
 -- what stands behind the branch of an `if`: an `else`, which belongs to it, or nothing of it
 unfoldable pub branches_at : Parser StmtTree → Place → ExprTree → StmtTree → Parser StmtTree

@@ -3,10 +3,11 @@
 ghost use Rattle.std.specs.Prelude.{◌≡◌, IfOk};
 ghost use Rattle.vf_syntax.specs.declared.keyword.Keyword.TheVariants as keywords;
 ghost use Rattle.vf_syntax.specs.declared.side.Side.TheVariants.{Real};
+ghost use Rattle.vf_syntax.specs.StmtTree as tree;
 ghost use Rattle.vf_syntax.specs.Walks.{head_has, is_word};
 ghost use Rattle.vf_cursor.specs.Parsing.{Gives};
 ghost use Rattle.vf_parse_expression.specs.Parsers.{expr_at, postfix_at};
-ghost use Rattle.vf_parse_statement.specs.Parsers.{is_whole, owed_at, is_inside, sees_statement_word, sees_statement, declaration_at, simple_statement_at, optional_expr_at, return_at, empty_at, flat_at, command_statement_at, condition_at, optional_first_at, optional_step_at, head_at, while_head_at, for_head_at, sees_annotation, while_of, for_of};
+ghost use Rattle.vf_parse_statement.specs.Parsers.{is_whole, owed_at, is_inside, sees_statement_word, sees_statement, declaration_at, simple_statement_at, optional_expr_at, return_at, empty_at, flat_at, command_statement_at, condition_at, optional_first_at, optional_step_at, behind_condition_at, behind_first_at, head_at, while_head_at, for_head_at, sees_annotation, while_of, for_of};
 
 use crate::annotations::GhostText;
 use std::alloc::Global;
@@ -91,10 +92,25 @@ fn declaration(cursor: &mut Cursor, depth: u32) -> Result<Stmt, Stop>
 {
     let place = cursor.here()?;
     let (written, name) = declared(cursor)?;
-    let value = optional_value(cursor, depth)?;
-    let last = cursor.mark(Side::Real, Punctuator::Semicolon)?;
-    let node = StmtNode::Declaration(written, name, value, last);
-    Ok(Stmt { place, node })
+    match optional_value(cursor, depth) {
+        Ok(value) => match cursor.mark(Side::Real, Punctuator::Semicolon) {
+            Ok(last) => {
+                let node = StmtNode::Declaration(written, name, value, last);
+                Ok(Stmt { place, node })
+            }
+            Err(stop) => {
+                drop(written);
+                drop(name);
+                drop(value);
+                Err(stop)
+            }
+        },
+        Err(stop) => {
+            drop(written);
+            drop(name);
+            Err(stop)
+        }
+    }
 }
 
 /// An assignment or a call, and its `;`.
@@ -104,9 +120,16 @@ fn simple_statement(cursor: &mut Cursor, depth: u32) -> Result<Stmt, Stop>
 {
     let place = cursor.here()?;
     let read = simple(cursor, depth)?;
-    let last = cursor.mark(Side::Real, Punctuator::Semicolon)?;
-    let node = StmtNode::Simple(read, last);
-    Ok(Stmt { place, node })
+    match cursor.mark(Side::Real, Punctuator::Semicolon) {
+        Ok(last) => {
+            let node = StmtNode::Simple(read, last);
+            Ok(Stmt { place, node })
+        }
+        Err(stop) => {
+            drop(read);
+            Err(stop)
+        }
+    }
 }
 
 /// An expression, or none where `;` comes next.
@@ -127,9 +150,16 @@ fn return_statement(cursor: &mut Cursor, depth: u32) -> Result<Stmt, Stop>
 {
     let place = cursor.word(Side::Real, Keyword::Return)?;
     let value = optional_expr(cursor, depth)?;
-    let last = cursor.mark(Side::Real, Punctuator::Semicolon)?;
-    let node = StmtNode::Return(value, last);
-    Ok(Stmt { place, node })
+    match cursor.mark(Side::Real, Punctuator::Semicolon) {
+        Ok(last) => {
+            let node = StmtNode::Return(value, last);
+            Ok(Stmt { place, node })
+        }
+        Err(stop) => {
+            drop(value);
+            Err(stop)
+        }
+    }
 }
 
 #[tactic(auto, unfolding(crate::specs::Parsers::empty_at))]
@@ -196,8 +226,13 @@ pub fn condition(cursor: &mut Cursor, depth: u32) -> Result<Expr, Stop>
 {
     cursor.mark(Side::Real, Punctuator::OpenParenthesis)?;
     let read = expr(cursor, depth)?;
-    cursor.mark(Side::Real, Punctuator::CloseParenthesis)?;
-    Ok(read)
+    match cursor.mark(Side::Real, Punctuator::CloseParenthesis) {
+        Ok(_) => Ok(read),
+        Err(stop) => {
+            drop(read);
+            Err(stop)
+        }
+    }
 }
 
 #[tactic(auto, unfolding(crate::specs::Parsers::optional_first_at))]
@@ -236,23 +271,73 @@ pub type WhileHead = (Place, Expr, Option<Invariant>);
 /// A `for` up to its body: its place, what stands between its parentheses, and its invariant.
 pub type ForHead = (Place, Parts, Option<Invariant>);
 
+/// What stands behind the condition of a `for` and its `;`.
+#[tactic(auto, unfolding(crate::specs::Parsers::behind_condition_at))]
+fn behind_condition(
+    cursor: &mut Cursor,
+    depth: u32,
+    first: Option<First>,
+    condition: Option<Expr>,
+) -> Result<Parts, Stop>
+    ensures { Gives result cursor.new.left.now (behind_condition_at (expr_at depth) (postfix_at depth) first condition cursor.old.left.now) }
+{
+    match optional_step(cursor, depth) {
+        Ok(step) => match cursor.mark(Side::Real, Punctuator::CloseParenthesis) {
+            Ok(_) => Ok(Parts {
+                first,
+                condition,
+                step,
+            }),
+            Err(stop) => {
+                drop(first);
+                drop(condition);
+                drop(step);
+                Err(stop)
+            }
+        },
+        Err(stop) => {
+            drop(first);
+            drop(condition);
+            Err(stop)
+        }
+    }
+}
+
+/// What stands behind the first part of a `for` and its `;`.
+#[tactic(auto, unfolding(crate::specs::Parsers::behind_first_at))]
+fn behind_first(cursor: &mut Cursor, depth: u32, first: Option<First>) -> Result<Parts, Stop>
+    ensures { Gives result cursor.new.left.now (behind_first_at (expr_at depth) (postfix_at depth) first cursor.old.left.now) }
+{
+    match optional_expr(cursor, depth) {
+        Ok(condition) => match cursor.mark(Side::Real, Punctuator::Semicolon) {
+            Ok(_) => behind_condition(cursor, depth, first, condition),
+            Err(stop) => {
+                drop(first);
+                drop(condition);
+                Err(stop)
+            }
+        },
+        Err(stop) => {
+            drop(first);
+            Err(stop)
+        }
+    }
+}
+
 /// What stands between the parentheses of a `for`.
-#[tactic(auto, unfolding(crate::specs::Parsers::head_at))]
+#[tactic(auto, unfolding(crate::specs::Parsers::head_at, crate::specs::Parsers::behind_first_at, crate::specs::Parsers::behind_condition_at))]
 fn for_parts(cursor: &mut Cursor, depth: u32) -> Result<Parts, Stop>
     ensures { Gives result cursor.new.left.now (head_at (expr_at depth) (postfix_at depth) cursor.old.left.now) }
 {
     cursor.mark(Side::Real, Punctuator::OpenParenthesis)?;
     let first = optional_first(cursor, depth)?;
-    cursor.mark(Side::Real, Punctuator::Semicolon)?;
-    let condition = optional_expr(cursor, depth)?;
-    cursor.mark(Side::Real, Punctuator::Semicolon)?;
-    let step = optional_step(cursor, depth)?;
-    cursor.mark(Side::Real, Punctuator::CloseParenthesis)?;
-    Ok(Parts {
-        first,
-        condition,
-        step,
-    })
+    match cursor.mark(Side::Real, Punctuator::Semicolon) {
+        Ok(_) => behind_first(cursor, depth, first),
+        Err(stop) => {
+            drop(first);
+            Err(stop)
+        }
+    }
 }
 
 /// A `while` up to its body.
@@ -267,8 +352,13 @@ pub fn while_head<G: GhostText>(
 {
     let place = cursor.word(Side::Real, Keyword::While)?;
     let tested = condition(cursor, depth)?;
-    let invariant = owed_invariant(cursor, annotations, grammar, depth)?;
-    Ok((place, tested, invariant))
+    match owed_invariant(cursor, annotations, grammar, depth) {
+        Ok(invariant) => Ok((place, tested, invariant)),
+        Err(stop) => {
+            drop(tested);
+            Err(stop)
+        }
+    }
 }
 
 /// A `for` up to its body.
@@ -292,13 +382,60 @@ pub fn for_head<G: GhostText>(
     }
 }
 
+/// An `if` and its branch.
+pub fn if_of(alloc: Global, place: Place, tested: Expr, branch: Stmt) -> Result<Stmt, Memory>
+    ensures { IfOk result (λ x. x ≡ tree.if_ place tested branch) }
+{
+    match Box::new(alloc, branch) {
+        Ok(branch) => {
+            let node = StmtNode::If(tested, branch);
+            Ok(Stmt { place, node })
+        }
+        Err(failed) => {
+            drop(tested);
+            Err(Memory::from(failed))
+        }
+    }
+}
+
+/// An `if` and both of its branches.
+pub fn if_else_of(
+    alloc: Global,
+    place: Place,
+    tested: Expr,
+    branch: Box<Stmt>,
+    other: Stmt,
+) -> Result<Stmt, Memory>
+    ensures { IfOk result (λ x. x ≡ tree.if_else place tested branch.value other) }
+{
+    match Box::new(alloc, other) {
+        Ok(other) => {
+            let node = StmtNode::IfElse(tested, branch, other);
+            Ok(Stmt { place, node })
+        }
+        Err(failed) => {
+            drop(tested);
+            Err(Memory::from(failed))
+        }
+    }
+}
+
 /// A `while` and its body.
 pub fn while_of(alloc: Global, head: WhileHead, body: Stmt) -> Result<Stmt, Memory>
     ensures { IfOk result (λ x. x ≡ while_of head body) }
 {
     let (place, tested, invariant) = head;
-    let node = StmtNode::While(tested, invariant, Box::new(alloc, body)?);
-    Ok(Stmt { place, node })
+    match Box::new(alloc, body) {
+        Ok(body) => {
+            let node = StmtNode::While(tested, invariant, body);
+            Ok(Stmt { place, node })
+        }
+        Err(failed) => {
+            drop(tested);
+            drop(invariant);
+            Err(Memory::from(failed))
+        }
+    }
 }
 
 /// A `for` and its body.
@@ -306,11 +443,20 @@ pub fn for_of(alloc: Global, head: ForHead, body: Stmt) -> Result<Stmt, Memory>
     ensures { IfOk result (λ x. x ≡ for_of head body) }
 {
     let (place, parts, invariant) = head;
-    let Parts {
-        first,
-        condition,
-        step,
-    } = parts;
-    let node = StmtNode::For(first, condition, step, invariant, Box::new(alloc, body)?);
-    Ok(Stmt { place, node })
+    match Box::new(alloc, body) {
+        Ok(body) => {
+            let Parts {
+                first,
+                condition,
+                step,
+            } = parts;
+            let node = StmtNode::For(first, condition, step, invariant, body);
+            Ok(Stmt { place, node })
+        }
+        Err(failed) => {
+            drop(parts);
+            drop(invariant);
+            Err(Memory::from(failed))
+        }
+    }
 }

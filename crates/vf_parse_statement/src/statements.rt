@@ -3,12 +3,12 @@
 ghost use Rattle.std.specs.Prelude.{◌≡◌, []};
 ghost use Rattle.vf_cursor.specs.Parsing.{Gives};
 ghost use Rattle.vf_parse_expression.specs.Parsers.{expr_at, postfix_at};
-ghost use Rattle.vf_parse_statement.specs.Parsers.{branches_at, if_at, while_at, for_at, block_by, real_by, real_at, stmt_at, stmts_at, body_at};
+ghost use Rattle.vf_parse_statement.specs.Parsers.{other_branch_at, branches_at, if_at, while_at, for_at, block_by, real_by, real_at, stmt_at, stmts_at, body_at};
 
 use crate::annotations::GhostText;
 use crate::flat::{
-    command_statement, condition, flat, for_head, for_of, sees_annotation, sees_else, sees_inside,
-    sees_statement, while_head, while_of,
+    command_statement, condition, flat, for_head, for_of, if_else_of, if_of, sees_annotation,
+    sees_else, sees_inside, sees_statement, while_head, while_of,
 };
 use vf_base::Place;
 use vf_cursor::cursor::Cursor;
@@ -95,13 +95,18 @@ fn if_statement<G: GhostText>(
 {
     let place = cursor.word(Side::Real, Keyword::If)?;
     let tested = condition(cursor, depth)?;
-    let branch = real_statement(cursor, annotations, grammar, depth)?;
-    branches(cursor, annotations, grammar, depth, place, tested, branch)
+    match real_statement(cursor, annotations, grammar, depth) {
+        Ok(branch) => branches(cursor, annotations, grammar, depth, place, tested, branch),
+        Err(stop) => {
+            drop(tested);
+            Err(stop)
+        }
+    }
 }
 
 /// What stands behind the branch of an `if`: an `else`, which belongs to it, or nothing of it.
 #[cycle(statement)]
-#[tactic(auto, unfolding(crate::specs::Parsers::branches_at))]
+#[tactic(auto, unfolding(crate::specs::Parsers::branches_at, crate::specs::Parsers::other_branch_at))]
 fn branches<G: GhostText>(
     cursor: &mut Cursor,
     annotations: &G,
@@ -113,15 +118,45 @@ fn branches<G: GhostText>(
 ) -> Result<Stmt, Stop>
     ensures { Gives result cursor.new.left.now (branches_at (real_at grammar G.command_at G.invariant_at depth) place tested branch cursor.old.left.now) }
 {
-    let alloc = cursor.alloc;
     if !sees_else(cursor) {
-        let node = StmtNode::If(tested, Box::new(alloc, branch)?);
-        return Ok(Stmt { place, node });
+        return Ok(if_of(cursor.alloc, place, tested, branch)?);
     }
-    cursor.word(Side::Real, Keyword::Else)?;
-    let other = real_statement(cursor, annotations, grammar, depth)?;
-    let node = StmtNode::IfElse(tested, Box::new(alloc, branch)?, Box::new(alloc, other)?);
-    Ok(Stmt { place, node })
+    match Box::new(cursor.alloc, branch) {
+        Ok(branch) => other_branch(cursor, annotations, grammar, depth, place, tested, branch),
+        Err(failed) => {
+            drop(tested);
+            Err(Stop::from(failed))
+        }
+    }
+}
+
+/// An `else` and the statement behind it.
+#[cycle(statement)]
+#[tactic(auto, unfolding(crate::specs::Parsers::other_branch_at))]
+fn other_branch<G: GhostText>(
+    cursor: &mut Cursor,
+    annotations: &G,
+    grammar: Grammar,
+    depth: u32,
+    place: Place,
+    tested: Expr,
+    branch: Box<Stmt>,
+) -> Result<Stmt, Stop>
+    ensures { Gives result cursor.new.left.now (other_branch_at (real_at grammar G.command_at G.invariant_at depth) place tested branch.value cursor.old.left.now) }
+{
+    match cursor.word(Side::Real, Keyword::Else) {
+        Ok(_) => match real_statement(cursor, annotations, grammar, depth) {
+            Ok(other) => Ok(if_else_of(cursor.alloc, place, tested, branch, other)?),
+            Err(stop) => {
+                drop(tested);
+                Err(stop)
+            }
+        },
+        Err(stop) => {
+            drop(tested);
+            Err(stop)
+        }
+    }
 }
 
 #[cycle(statement)]
@@ -135,8 +170,15 @@ fn while_statement<G: GhostText>(
     ensures { Gives result cursor.new.left.now (while_at grammar (expr_at depth) (G.invariant_at depth) (real_at grammar G.command_at G.invariant_at depth) cursor.old.left.now) }
 {
     let head = while_head(cursor, annotations, grammar, depth)?;
-    let body = real_statement(cursor, annotations, grammar, depth)?;
-    Ok(while_of(cursor.alloc, head, body)?)
+    match real_statement(cursor, annotations, grammar, depth) {
+        Ok(body) => Ok(while_of(cursor.alloc, head, body)?),
+        Err(stop) => {
+            let (_, tested, invariant) = head;
+            drop(tested);
+            drop(invariant);
+            Err(stop)
+        }
+    }
 }
 
 #[cycle(statement)]
@@ -150,8 +192,15 @@ fn for_statement<G: GhostText>(
     ensures { Gives result cursor.new.left.now (for_at grammar (expr_at depth) (postfix_at depth) (G.invariant_at depth) (real_at grammar G.command_at G.invariant_at depth) cursor.old.left.now) }
 {
     let head = for_head(cursor, annotations, grammar, depth)?;
-    let body = real_statement(cursor, annotations, grammar, depth)?;
-    Ok(for_of(cursor.alloc, head, body)?)
+    match real_statement(cursor, annotations, grammar, depth) {
+        Ok(body) => Ok(for_of(cursor.alloc, head, body)?),
+        Err(stop) => {
+            let (_, parts, invariant) = head;
+            drop(parts);
+            drop(invariant);
+            Err(stop)
+        }
+    }
 }
 
 #[cycle(statement)]

@@ -18,6 +18,9 @@ decreases-if_statement g l = 8 * l.depth + 5
 abbrev pub decreases-branches : goal.decreases-branches
 decreases-branches g l = 8 * l.depth + 4
 
+abbrev pub decreases-other_branch : goal.decreases-other_branch
+decreases-other_branch g l = 8 * l.depth + 3
+
 abbrev pub decreases-while_statement : goal.decreases-while_statement
 decreases-while_statement g l = 8 * l.depth + 5
 
