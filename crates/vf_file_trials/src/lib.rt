@@ -1,11 +1,5 @@
-//! Trials of what files become: directives, tokens of whole units, and runs of the tool.
+//! Trials of the tool over files in memory, where a read or a write fails as in no call that a text of tests/ can make.
 #![tactic(auto)]
 
 #[cfg(test)]
-mod directives;
-#[cfg(test)]
-mod runs;
-#[cfg(test)]
-mod sizes;
-#[cfg(test)]
-mod units;
+mod failures;
