@@ -2,7 +2,7 @@
 
 use std::alloc::Global;
 use std::process::Abort;
-use vf_base::{Memory, NumberList, Place, Sequence};
+use vf_base::{Memory, NumberList, Place, Sequence, Text};
 use vf_lexer::{TokenList, lex};
 use vf_parse::parse::parse;
 use vf_parse_c::plain::parse_plain;
@@ -10,18 +10,18 @@ use vf_resolve::Files;
 use vf_syntax::item::Unit;
 
 /// The place behind the texts here.
-const END: Place = Place {
+pub const END: Place = Place {
     file: 0,
     line: 99,
     column: 1,
 };
 
-/// The tokens of a short text.
-fn tokens(alloc: Global, text: &str) -> Result<TokenList, Memory> {
+/// The tokens of a short text, which are ghost or real where nothing else says so.
+pub fn tokens(alloc: Global, text: &str, is_ghost: bool) -> Result<TokenList, Memory> {
     if text.len() > 1500 {
         return Err(Memory);
     }
-    match lex(alloc, text.as_bytes(), 0, false) {
+    match lex(alloc, text.as_bytes(), 0, is_ghost) {
         Ok(tokens) => Ok(tokens),
         Err(_) => Err(Memory),
     }
@@ -29,7 +29,7 @@ fn tokens(alloc: Global, text: &str) -> Result<TokenList, Memory> {
 
 /// The tree of a short text.
 pub fn parsed(alloc: Global, text: &str) -> Result<Unit, Memory> {
-    let tokens = tokens(alloc, text)?;
+    let tokens = tokens(alloc, text, false)?;
     match parse(alloc, tokens.as_slice(), NumberList::new(alloc), END) {
         Ok(unit) => Ok(unit),
         Err(_) => Err(Memory),
@@ -38,22 +38,29 @@ pub fn parsed(alloc: Global, text: &str) -> Result<Unit, Memory> {
 
 /// The tree of a short text without its annotations.
 pub fn parsed_plainly(alloc: Global, text: &str) -> Result<Unit, Memory> {
-    let tokens = tokens(alloc, text)?;
+    let tokens = tokens(alloc, text, false)?;
     match parse_plain(alloc, tokens.as_slice(), NumberList::new(alloc), END) {
         Ok(unit) => Ok(unit),
         Err(_) => Err(Memory),
     }
 }
 
-/// The files of a unit of one file.
+/// The files of a unit of one file, which has the headers of memory and of arrays.
 pub fn one_file(alloc: Global) -> Files {
     Files {
         own: 0,
         headers: Sequence::new(alloc),
         preludes: NumberList::new(alloc),
-        has_stdlib: false,
-        has_arrays: false,
+        has_stdlib: true,
+        has_arrays: true,
     }
+}
+
+/// The path of the one file.
+pub fn one_path(alloc: Global) -> Result<Vec<Text>, Memory> {
+    let mut paths = Vec::new(alloc);
+    paths.push(Text::from_bytes(alloc, b"one.c")?)?;
+    Ok(paths)
 }
 
 /// Asserts that no text gets another answer than its row says.
