@@ -1,4 +1,3 @@
 pub mod Closing
 pub mod Gained
 pub mod Verdicts
-pub mod Exchanging

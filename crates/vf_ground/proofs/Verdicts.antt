@@ -10,9 +10,7 @@ use Rattle.vf_refute.specs.declared.steps.Fact.{Fact}
 use Rattle.vf_refute.specs.declared.steps.Fact.TheVariants as fs
 use Rattle.vf_refute.specs.Closure.{Same, Conflict, clash, denied_equality, denied_difference, falsehood}
 use Rattle.vf_ground.specs.Held.{HasFact, HasTerm, AreSound, AreComplete, AllAgree, ShowNoConflict, HaveGrown, HaveBoundsGrown, IsContradicted, Clash, IsFine}
-use Rattle.vf_ground.specs.Closures.{AreItsClasses}
 use Rattle.vf_ground.proofs.Closing.{same_by, near_by, no_conflict, cycle_by, same_in}
-use Rattle.vf_ground.proofs.Gained.{fact_kept, term_kept}
 
 module _ (nodes : List Node) (facts : List Fact) (merged : List (ℕ × ℕ)) (edges : List Edge) (sound : AreSound nodes facts merged edges) where
   pub contradiction_is : (l : Fact) → IsFine nodes l → Contains facts l → IsContradicted nodes merged edges l → Conflict nodes facts
@@ -39,27 +37,3 @@ module _ (nodes : List Node) (facts : List Fact) (merged : List (ℕ × ℕ)) (e
         differ = λ x y c m p q. h (fs.NotDifference x y c) m (p, q);
         not_false = λ m. h fs.False m tt;
       }
-
-pub final_sound : (n0 n1 k n3 : List Node) (facts : List Fact) (m1 : List (ℕ × ℕ)) (e1 e2 : List Edge) (m3 : List (ℕ × ℕ)) (e3 : List Edge) → n1 ≡ n0 → k ≡ n1 → n3 ≡ n1 →
-    AreSound n0 facts m1 e1 → HaveBoundsGrown k e1 e2 → HaveGrown n1 m1 e2 m3 e3 → AreSound n3 facts m3 e3
-final_sound n0 n1 k n3 facts m1 e1 e2 m3 e3 p q r s a g =
-    subst (λ (n : List Node). AreSound n facts m3 e3) (sym r)
-    (g.sound facts ((subst (λ (n : List Node). HaveBoundsGrown n e1 e2) q a m1).sound facts (subst (λ (n : List Node). AreSound n facts m1 e1) (sym p) s)))
-
-pub final_complete : (n1 k n3 : List Node) (facts : List Fact) (m1 : List (ℕ × ℕ)) (e1 e2 : List Edge) (m3 : List (ℕ × ℕ)) (e3 : List Edge) → k ≡ n1 → n3 ≡ n1 →
-    ((l : Fact) → Contains facts l → HasFact m1 e1 l) → ((a : ℕ) → a < length k → HasTerm k e2 a) → HaveBoundsGrown k e1 e2 → HaveGrown n1 m1 e2 m3 e3 → AllAgree n3 m3 e3 → AreComplete n3 facts m3 e3
-final_complete n1 k n3 facts m1 e1 e2 m3 e3 q r has terms a g settled =
-    record {
-      facts_in = λ l m. fact_kept m1 e1 m3 e3 g.merged_kept (λ e h. g.edges_kept e ((a m1).edges_kept e h)) l (has l m);
-      terms_in = λ x i. term_kept n3 e2 e3 g.edges_kept x (subst (λ (n : List Node). (y : ℕ) → y < length n → HasTerm n e2 y) (q ∙ sym r) terms x i);
-      settled = settled;
-    }
-
--- where there is no conflict, terms are in one class exactly where they are equal
-pub classes_are : (nodes : List Node) (facts : List Fact) (c : Merges) (edges : List Edge) → c.nodes ≡ nodes → AreSound c.nodes facts c.merged edges → ((HasNegativeCycle edges → ⊥) → AreComplete c.nodes facts c.merged edges) → (Conflict c.nodes facts → ⊥)
-    → (Conflict nodes facts → ⊥) × AreItsClasses nodes facts c
-classes_are nodes facts c edges k sound complete none =
-    let whole = complete (λ h. none (cycle_by c.nodes facts c.merged edges sound h)) in (
-      subst (λ (ns : List Node). Conflict ns facts → ⊥) k none,
-      record { table = k; exact = λ a b. subst (λ (ns : List Node). Congruent c.nodes (WereMerged c.merged) a b ↔ Same ns facts a b) k (same_by c.nodes facts c.merged edges sound, same_in c.nodes facts c.merged edges whole) },
-    )

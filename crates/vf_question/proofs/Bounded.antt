@@ -17,22 +17,10 @@ use Rattle.vf_closure.specs.Closure.{no_unfoldings, Arises, Same, Conflict}
 use Rattle.vf_reading.specs.Reading.{in_row, IsInside, literal, IsTableOf, ClosuresAgree, EqualTermsAgree}
 use Rattle.vf_reading.proofs.Heads as H
 use Rattle.vf_reading.proofs.Up.{fact_up}
-use Rattle.vf_ground.specs.declared.verdict.Closed.{Closed}
-use Rattle.vf_ground.specs.declared.verdict.Closed.TheVariants as closed
-use Rattle.vf_ground.specs.Closures as G
 use Rattle.vf_question.specs.declared.question.Question.{Question}
 use Rattle.vf_question.specs.Numbered.{place, terms_of, all_terms, pointed}
 use Rattle.vf_question.specs.Questions.{at, IsQuestion}
-use Rattle.vf_question.specs.Closures.{IsClosureOf}
 use Rattle.vf_question.proofs.Plainness.{IsBounded, AreBounded}
-
-one_longer : (b : Bool) (t : Term) (ts : List Term) → length (cond b ts (ts ++ t ∷ [])) ≤ length ts + 1
-one_longer true t ts = omega arith
-one_longer false t ts = omega (arith, length_push ts t)
-
--- 0 is at most one term more
-pub few_terms : (ls : List Literal) (rs : List (Bor Term)) (most : ℕ) → pointed rs ≡ all_terms ls → length (terms_of ls) ≤ most → length rs ≤ most + 1
-few_terms ls rs most e l = omega (arith, length-map rs (λ r. r.now), ap length e, one_longer (nat_lt (place (number (pos 0)) (terms_of ls)) (length (terms_of ls))) (number (pos 0)) (terms_of ls))
 
 node_there : (nodes : List Node) (x : ℕ) → x < length nodes → (m : Node) × (slice_get nodes x ≡ Some m)
 node_there [] x l = absurd (omega arith)
@@ -77,16 +65,3 @@ module _ (ls : List Literal) (q : Question) (is : IsQuestion ls q) where
   agree law =
       let t : IsTableOf q.nodes.items (at (all_terms ls)) (map (literal (at (all_terms ls))) q.facts.items) = subst (IsTableOf q.nodes.items (at (all_terms ls))) (sym is.facts) is.table in
       subst (λ (ks : List Literal). over_table.Conflict q.nodes.items q.facts.items ↔ Conflict no_unfoldings ks) is.facts (law q.nodes.items is.meant (at (all_terms ls)) q.facts.items is.reading t is.inside)
-
-  equal_agree : EqualTermsAgree → (a b : ℕ) → a < length (all_terms ls) → b < length (all_terms ls) → over_table.Same q.nodes.items q.facts.items a b ↔ Same no_unfoldings ls (at (all_terms ls) a) (at (all_terms ls) b)
-  equal_agree law a b k l =
-      let t : IsTableOf q.nodes.items (at (all_terms ls)) (map (literal (at (all_terms ls))) q.facts.items) = subst (IsTableOf q.nodes.items (at (all_terms ls))) (sym is.facts) is.table in
-      subst (λ (ks : List Literal). over_table.Same q.nodes.items q.facts.items a b ↔ Same no_unfoldings ks (at (all_terms ls) a) (at (all_terms ls) b)) is.facts (law q.nodes.items is.meant (at (all_terms ls)) q.facts.items is.reading t is.inside a b (omega (arith, is.long)) (omega (arith, is.long)))
-
-  -- the closure of the table is that of the literals
-  pub closure_of : ClosuresAgree → EqualTermsAgree → (c : Closed) → G.IsClosureOf q.nodes.items q.facts.items c → IsClosureOf ls c
-  closure_of law equal closed.Conflict h = (agree law).0 h
-  closure_of law equal (closed.Classes c) h = (
-    λ k. h.0 ((agree law).1 k),
-    record { size = ap length h.1.table ∙ is.long; exact = λ a b k l. both (h.1.exact a b) (equal_agree equal a b k l) },
-  )

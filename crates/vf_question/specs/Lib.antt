@@ -1,7 +1,6 @@
 pub mod Numbered
 pub mod Tabled
 pub mod Questions
-pub mod Closures
 pub mod Plain
 pub mod Unfolded
 pub mod Ends

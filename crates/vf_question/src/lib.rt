@@ -1,24 +1,19 @@
-//! Questions over terms, decided over a table of terms.
+//! Questions over terms, and what they are over a table of terms.
 //!
 //! The terms of a question's literals are numbered in their order, parts before wholes, each once, and
-//! the literals become facts over the numbers. The closure of these facts is decided by `vf_ground`,
-//! and the law of readings of `vf_reading` carries the answer back to the literals. How fixpoints are
-//! unfolded stands in `specs/`, with laws that say when enough was unfolded and why it ends.
+//! the literals become facts over the numbers. The law of readings of `vf_reading` carries what is
+//! decided of these facts back to the literals. How fixpoints are unfolded stands in `specs/`, with
+//! laws that say when enough was unfolded and why it ends.
 #![tactic(auto)]
 
-mod closing;
 mod laws;
 mod numbering;
 mod plain;
 mod question;
-mod table;
 mod unfolding;
-mod verdict;
 
-pub use closing::close;
 pub use laws::{next_is_right, right_is_sound, settled_is_enough, unfolding_ends};
-pub use numbering::{MOST_TERMS, all_terms, place};
+pub use numbering::MOST_TERMS;
 pub use plain::{are_plain, is_plain, is_plain_literal};
 pub use question::Question;
 pub use unfolding::Unfolding;
-pub use verdict::refuted;

@@ -1,7 +1,0 @@
-use Rattle.std.proofs.Common.{ℕ, ◌<◌, slice_index_or}
-use Rattle.vf_refute.specs.declared.steps.Fact.{Fact}
-use Rattle.vf_ground.specs.Held.{IsFine}
-use Rattle.vf_ground.proofs.fine.are_fine.Given as goal
-
-abbrev pub invariant-loop-fact : goal.invariant-loop-fact
-invariant-loop-fact l = (k : ℕ) (d : Fact) → k < l.fact-index → IsFine l.nodes (slice_index_or l.facts k d)

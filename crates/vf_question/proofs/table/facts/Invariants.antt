@@ -1,8 +1,0 @@
-use Rattle.std.proofs.Common.{◌≡◌, map, take}
-use Rattle.vf_formula.specs.Literals.{shown_literal}
-use Rattle.vf_question.specs.Numbered.{pointed}
-use Rattle.vf_question.specs.Tabled.{tabled_fact}
-use Rattle.vf_question.proofs.table.facts.Given as goal
-
-abbrev pub invariant-loop-literal : goal.invariant-loop-literal
-invariant-loop-literal l = l.facts.items ≡ map (tabled_fact (pointed l.terms)) (map shown_literal (take l.literal-index l.literals))
