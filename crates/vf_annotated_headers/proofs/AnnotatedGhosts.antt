@@ -4,11 +4,11 @@ use Rattle.vf_syntax.specs.declared.item.Item.{Item}
 use Rattle.vf_resolve.specs.declared.files.Files.{Files}
 use Rattle.vf_gathering.proofs.Sorting.{predicates_told}
 use Rattle.vf_resolve.specs.Beginning.{ahead_of, beginning, foretold_of}
-use Rattle.vf_standing.proofs.UpTo.{whole_reached}
-use Rattle.vf_ghost_headers.specs.Later.{KnowsPredicates}
-use Rattle.vf_ghost_headers.proofs.Later.{predicates_are_foreseen}
-use Rattle.vf_ghost_headers.proofs.LaterSorts.{sorts_are_foreseen}
-use Rattle.vf_ghost_headers.proofs.Units.{units_show_the_same_ghosts}
+use Rattle.vf_fixpoint_laws.proofs.well_declared.UpTo.{whole_reached}
+use Rattle.vf_header_laws.specs.ghost_names.Later.{KnowsPredicates}
+use Rattle.vf_header_laws.proofs.ghost_names.Later.{predicates_are_foreseen}
+use Rattle.vf_header_laws.proofs.ghost_names.LaterSorts.{sorts_are_foreseen}
+use Rattle.vf_header_laws.proofs.ghost_names.Units.{units_show_the_same_ghosts}
 use Rattle.vf_annotated_headers.proofs.AnnotatedUnits.{nothing_declared}
 use Rattle.vf_annotated_headers.specs.AnnotatedGhosts.{AcceptedUnitsDeclareAsTold, AnnotatedUnitsForeseeTheSame, AnnotatedUnitsForeseeTheSameSorts, AnnotatedUnitsShowTheSameGhosts}
 

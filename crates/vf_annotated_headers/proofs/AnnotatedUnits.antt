@@ -4,13 +4,13 @@ use Rattle.vf_syntax.specs.declared.item.Item.{Item}
 use Rattle.vf_syntax.specs.declared.item.Item.TheVariants as items
 use Rattle.vf_resolve.specs.declared.files.Files.{Files}
 use Rattle.vf_resolve.specs.Beginning.{beginning}
-use Rattle.vf_seen.specs.Seen.{seen}
-use Rattle.vf_plain.specs.Stripped.{stripped_items}
-use Rattle.vf_erasure.proofs.WalkingUnits.{units_are_seen}
-use Rattle.vf_headers.specs.Items.{HaveTheSameInside, inside, IsInside, IsOutside, none, outside_first, outside_second}
-use Rattle.vf_headers.specs.Same.{ConsistsOfHeaders}
-use Rattle.vf_headers.specs.Units.{IsBeginning}
-use Rattle.vf_headers.proofs.Units.{units_show_the_same}
+use Rattle.vf_erasure_laws.specs.seen.Seen.{seen}
+use Rattle.vf_erasure_laws.specs.plain.Stripped.{stripped_items}
+use Rattle.vf_erasure_laws.proofs.erased.WalkingUnits.{units_are_seen}
+use Rattle.vf_header_laws.specs.c_names.Items.{HaveTheSameInside, inside, IsInside, IsOutside, none, outside_first, outside_second}
+use Rattle.vf_header_laws.specs.c_names.Same.{ConsistsOfHeaders}
+use Rattle.vf_header_laws.specs.c_names.Units.{IsBeginning}
+use Rattle.vf_header_laws.proofs.c_names.Units.{units_show_the_same}
 use Rattle.vf_annotated_headers.specs.AnnotatedUnits.{AnnotatedUnitsShowTheSame, StrippedItemsAreTheSame}
 
 -- ---- items without annotations stand where they stood

@@ -5,10 +5,10 @@ use Rattle.vf_snapshot.specs.Holdings.{Holdings}
 use Rattle.vf_preproc.specs.UnitText.{Library}
 use Rattle.vf_expand.specs.declared.whole.UnitTokens.{UnitTokens}
 use Rattle.vf_expand.specs.Wholes.{text_of, text_of_unit}
-use Rattle.vf_included.specs.Closed.{TellsApart}
+use Rattle.vf_header_laws.specs.included.Closed.{TellsApart}
 use Rattle.vf_resolve.specs.UnitFiles.{consists_of, files_in, files_of}
-use Rattle.vf_headers.specs.Units.{IsHeaderOfBoth}
-use Rattle.vf_expanded_headers.proofs.Expanded.{expanded_headers_consist_of_headers}
+use Rattle.vf_header_laws.specs.c_names.Units.{IsHeaderOfBoth}
+use Rattle.vf_header_laws.proofs.expanded.Expanded.{expanded_headers_consist_of_headers}
 use Rattle.vf_annotated_headers.specs.ExpandedGhosts.{ExpandedUnitsForeseeTheSameSorts, ExpandedUnitsShowTheSameGhosts}
 use Rattle.vf_annotated_headers.specs.ExpandedUnits.{beginning_of, IsSharedHeader}
 use Rattle.vf_annotated_headers.proofs.AnnotatedGhosts.{annotated_units_foresee_the_same_sorts, annotated_units_show_the_same_ghosts}

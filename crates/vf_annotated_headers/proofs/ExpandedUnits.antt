@@ -1,7 +1,7 @@
 -- Units that were expanded.
 use Rattle.std.proofs.Common.{◌≡◌, ℕ, zero, suc, ◌+◌, List, [], ◌∷◌, Some, slice_get, refl, ap, arith, subst}
 use Rattle.vf_resolve.specs.UnitFiles.{by_numbers, consists_of, files_in, files_of}
-use Rattle.vf_expanded_headers.proofs.Expanded.{expanded_headers_consist_of_headers}
+use Rattle.vf_header_laws.proofs.expanded.Expanded.{expanded_headers_consist_of_headers}
 use Rattle.vf_annotated_headers.specs.ExpandedUnits.{ExpandedUnitsShowTheSame}
 use Rattle.vf_annotated_headers.proofs.AnnotatedUnits.{annotated_units_show_the_same}
 

@@ -5,12 +5,12 @@ use Rattle.vf_syntax.specs.declared.item.Item.{Item}
 use Rattle.vf_resolve.specs.declared.files.Files.{Files}
 use Rattle.vf_resolve.specs.Beginning.{beginning}
 use Rattle.vf_resolve.specs.Units.{ItemsCome}
-use Rattle.vf_headers.specs.Parts.{is_part_of}
-use Rattle.vf_headers.specs.Units.{IsHeaderOfBoth}
-use Rattle.vf_ghost_headers.specs.Later.{ForeseeTheSame}
-use Rattle.vf_ghost_headers.specs.LaterSorts.{AreDeclaredAsTold, ForeseeTheSameSorts}
-use Rattle.vf_ghost_headers.specs.Same.{ShowTheSameGhosts}
-use Rattle.vf_ghost_headers.specs.Units.{HaveTheSameGhosts}
+use Rattle.vf_header_laws.specs.c_names.Parts.{is_part_of}
+use Rattle.vf_header_laws.specs.c_names.Units.{IsHeaderOfBoth}
+use Rattle.vf_header_laws.specs.ghost_names.Later.{ForeseeTheSame}
+use Rattle.vf_header_laws.specs.ghost_names.LaterSorts.{AreDeclaredAsTold, ForeseeTheSameSorts}
+use Rattle.vf_header_laws.specs.ghost_names.Same.{ShowTheSameGhosts}
+use Rattle.vf_header_laws.specs.ghost_names.Units.{HaveTheSameGhosts}
 
 -- where two units are accepted, and the same items of annotations stand in a header of both, the header shows the same names of annotations in both
 abbrev pub AnnotatedUnitsShowTheSameGhosts : Type 0

@@ -5,12 +5,12 @@ use Rattle.vf_syntax.specs.declared.item.Item.{Item}
 use Rattle.vf_resolve.specs.declared.files.Files.{Files}
 use Rattle.vf_resolve.specs.Beginning.{beginning}
 use Rattle.vf_resolve.specs.Units.{ItemsCome}
-use Rattle.vf_seen.specs.Seen.{seen}
-use Rattle.vf_plain.specs.Stripped.{stripped_items}
-use Rattle.vf_headers.specs.Items.{HaveTheSameInside}
-use Rattle.vf_headers.specs.Parts.{is_part_of}
-use Rattle.vf_headers.specs.Same.{ShowTheSame}
-use Rattle.vf_headers.specs.Units.{IsHeaderOfBoth}
+use Rattle.vf_erasure_laws.specs.seen.Seen.{seen}
+use Rattle.vf_erasure_laws.specs.plain.Stripped.{stripped_items}
+use Rattle.vf_header_laws.specs.c_names.Items.{HaveTheSameInside}
+use Rattle.vf_header_laws.specs.c_names.Parts.{is_part_of}
+use Rattle.vf_header_laws.specs.c_names.Same.{ShowTheSame}
+use Rattle.vf_header_laws.specs.c_names.Units.{IsHeaderOfBoth}
 
 -- where two units are accepted, and the same items stand in a header of both but for their annotations, the header shows the same in both of what C text sees
 abbrev pub AnnotatedUnitsShowTheSame : Type 0

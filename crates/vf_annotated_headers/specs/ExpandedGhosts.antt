@@ -6,12 +6,12 @@ use Rattle.vf_snapshot.specs.Holdings.{Holdings}
 use Rattle.vf_preproc.specs.UnitText.{Library}
 use Rattle.vf_expand.specs.declared.whole.UnitTokens.{UnitTokens}
 use Rattle.vf_expand.specs.Wholes.{text_of, text_of_unit}
-use Rattle.vf_included.specs.Closed.{TellsApart}
+use Rattle.vf_header_laws.specs.included.Closed.{TellsApart}
 use Rattle.vf_resolve.specs.Units.{ItemsCome}
-use Rattle.vf_headers.specs.Parts.{is_part_of}
-use Rattle.vf_ghost_headers.specs.LaterSorts.{ForeseeTheSameSorts}
-use Rattle.vf_ghost_headers.specs.Same.{ShowTheSameGhosts}
-use Rattle.vf_ghost_headers.specs.Units.{HaveTheSameGhosts}
+use Rattle.vf_header_laws.specs.c_names.Parts.{is_part_of}
+use Rattle.vf_header_laws.specs.ghost_names.LaterSorts.{ForeseeTheSameSorts}
+use Rattle.vf_header_laws.specs.ghost_names.Same.{ShowTheSameGhosts}
+use Rattle.vf_header_laws.specs.ghost_names.Units.{HaveTheSameGhosts}
 use Rattle.vf_annotated_headers.specs.ExpandedUnits.{beginning_of, IsSharedHeader}
 
 -- where two units are expanded from files that are told apart, and accepted, and the same items of annotations stand in a header of both, the header shows the same names of annotations in both

@@ -7,15 +7,15 @@ use Rattle.vf_snapshot.specs.Holdings.{Holdings}
 use Rattle.vf_preproc.specs.UnitText.{Library}
 use Rattle.vf_expand.specs.declared.whole.UnitTokens.{UnitTokens}
 use Rattle.vf_expand.specs.Wholes.{text_of, text_of_unit}
-use Rattle.vf_included.specs.Closed.{TellsApart}
+use Rattle.vf_header_laws.specs.included.Closed.{TellsApart}
 use Rattle.vf_resolve.specs.Beginning.{beginning}
 use Rattle.vf_resolve.specs.UnitFiles.{consists_of, files_in, files_of}
 use Rattle.vf_resolve.specs.Units.{ItemsCome}
-use Rattle.vf_seen.specs.Seen.{seen}
-use Rattle.vf_plain.specs.Stripped.{stripped_items}
-use Rattle.vf_headers.specs.Items.{HaveTheSameInside}
-use Rattle.vf_headers.specs.Parts.{is_part_of}
-use Rattle.vf_headers.specs.Same.{ShowTheSame}
+use Rattle.vf_erasure_laws.specs.seen.Seen.{seen}
+use Rattle.vf_erasure_laws.specs.plain.Stripped.{stripped_items}
+use Rattle.vf_header_laws.specs.c_names.Items.{HaveTheSameInside}
+use Rattle.vf_header_laws.specs.c_names.Parts.{is_part_of}
+use Rattle.vf_header_laws.specs.c_names.Same.{ShowTheSame}
 
 -- what is declared in front of the items of a unit that was expanded
 abbrev pub beginning_of : Holdings → UnitTokens → List Item → Scope

@@ -17,7 +17,7 @@ use Rattle.vf_walk.specs.Items.{WalksBodyIf, WalksContract, WalksDefinition, Wal
 use Rattle.vf_walk.specs.Meanings.{Meanings}
 use Rattle.vf_walk.specs.Names.{earlier, has_types, is_new, may_be_stated}
 use Rattle.vf_walk.specs.Walking.{behind}
-use Rattle.vf_hidden.proofs.Coming.{Comes, Leads, ok_comes, only_leads, then_leads}
+use Rattle.vf_erasure_laws.proofs.hidden.Coming.{Comes, Leads, ok_comes, only_leads, then_leads}
 use Rattle.vf_env_laws.proofs.Keeping.{Any, Brings, IsBeside, Keeps, Stands, any_comes, behind_brings, brings_behind, brings_known, brings_name, beside_kept, err_comes, if_comes, keeps_again, keeps_same, ok_keeps, optional_keeps, then_brings, walk_comes}
 use Rattle.vf_env_laws.proofs.Putting.{put_known, put_new}
 use Rattle.vf_env_laws.proofs.Heads.{earlier_stands, new_name, stands_kept}

@@ -41,10 +41,10 @@ use Rattle.vf_predicates.specs.Predicates as predicates
 use Rattle.vf_equations.specs.Fixpoints.{EquationsCome, FixpointComes}
 use Rattle.vf_equations.specs.Fixpoints as fixpoints
 use Rattle.vf_equations.specs.Values as values
-use Rattle.vf_hidden.proofs.Binding as binding
-use Rattle.vf_hidden.proofs.Coming.{Comes, Leads, behind_comes, none_some, ok_comes, only_leads, then_leads, unless_comes}
-use Rattle.vf_hidden.proofs.Giving.{parts}
-use Rattle.vf_hidden.proofs.Heads.{parameters_come}
+use Rattle.vf_erasure_laws.proofs.hidden.Binding as binding
+use Rattle.vf_erasure_laws.proofs.hidden.Coming.{Comes, Leads, behind_comes, none_some, ok_comes, only_leads, then_leads, unless_comes}
+use Rattle.vf_erasure_laws.proofs.hidden.Giving.{parts}
+use Rattle.vf_erasure_laws.proofs.hidden.Heads.{parameters_come}
 use Rattle.vf_env.specs.Named.{constructor_name}
 use Rattle.vf_env_laws.proofs.Keeping.{Any, Brings, IsBeside, Keeps, brings_before, brings_both, brings_known, brings_name, brings_none, if_comes, keeps_adding, keeps_again, keeps_both, keeps_kept, keeps_same, passed_comes, then_brings}
 

@@ -8,7 +8,7 @@ use Rattle.vf_declared.specs.declared.scope.Scope.{Scope}
 use Rattle.vf_declared.specs.Scopes.{at_index, at_name}
 use Rattle.vf_syntax.specs.declared.written.Name.{Name}
 use Rattle.vf_walk.specs.Names.{earlier, earlier_in, extended, extends, is_new, is_taken}
-use Rattle.vf_hidden.proofs.Coming.{Comes, none_some, ok_comes}
+use Rattle.vf_erasure_laws.proofs.hidden.Coming.{Comes, none_some, ok_comes}
 use Rattle.vf_env_laws.proofs.Keeping.{IsBeside, Keeps, Stands, err_comes}
 
 -- a name keeps its number where names are kept

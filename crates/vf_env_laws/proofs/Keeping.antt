@@ -8,11 +8,11 @@ use Rattle.vf_declared.specs.declared.scope.Scope.{Scope}
 use Rattle.vf_declared.specs.Writing.{with_name, with_name_again}
 use Rattle.vf_datatypes.specs.Walking as datatypes
 use Rattle.vf_walk.specs.Walking.{Only, Optional, Then, Walked, behind, unless}
-use Rattle.vf_seen.specs.Unseen.{AddsGhosts}
-use Rattle.vf_hidden.proofs.Adding.{IsKept}
-use Rattle.vf_hidden.proofs.Coming.{Comes, Leads, apart, ok_comes, only_leads, then_leads}
-use Rattle.vf_hidden.proofs.Declarations.{as_many_again}
-use Rattle.vf_hidden.proofs.Lists.{one_beside}
+use Rattle.vf_erasure_laws.specs.seen.Unseen.{AddsGhosts}
+use Rattle.vf_erasure_laws.proofs.hidden.Adding.{IsKept}
+use Rattle.vf_erasure_laws.proofs.hidden.Coming.{Comes, Leads, apart, ok_comes, only_leads, then_leads}
+use Rattle.vf_erasure_laws.proofs.hidden.Declarations.{as_many_again}
+use Rattle.vf_erasure_laws.proofs.hidden.Lists.{one_beside}
 use Rattle.vf_env_laws.specs.Declared.{put_all}
 use Rattle.vf_env_laws.proofs.Putting.{put_both, put_known, put_new}
 

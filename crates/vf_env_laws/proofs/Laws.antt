@@ -20,8 +20,8 @@ use Rattle.vf_contracts.specs.Comes as contracts
 use Rattle.vf_commands.specs.declared.around.Around.{Around}
 use Rattle.vf_commands.specs.Comes as commands
 use Rattle.vf_annotations.specs.Forms.{FormComes, meanings}
-use Rattle.vf_hidden.proofs.Coming.{Leads, only_leads, then_leads}
-use Rattle.vf_hidden.proofs.Giving.{command, contract, parts}
+use Rattle.vf_erasure_laws.proofs.hidden.Coming.{Leads, only_leads, then_leads}
+use Rattle.vf_erasure_laws.proofs.hidden.Giving.{command, contract, parts}
 use Rattle.vf_env.specs.Named.{named, named_by_form, tagged}
 use Rattle.vf_env.specs.Trees.{HasTrees, declaring, is_among}
 use Rattle.vf_env_laws.specs.Declared.{HasFirst, declared_by}

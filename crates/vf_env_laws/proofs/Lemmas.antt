@@ -29,8 +29,8 @@ use Rattle.vf_lemma_items.specs.Earlier.{counted, earlier, extended, extends, ha
 use Rattle.vf_lemma_items.specs.Kept.{first_renamed, kept_in, taken_from, taken_unless}
 use Rattle.vf_lemma_items.specs.Lemmas.{BodyIf, DefinitionComes, DefinitionOf, IsLemma, OwnContract, PrototypeComes, PrototypeOf, SignatureComes, begun, number}
 use Rattle.vf_lemma_items.specs.Lemmas as lemmas
-use Rattle.vf_hidden.proofs.Coming.{Comes, Leads, behind_comes, none_some, ok_comes, only_leads, then_leads}
-use Rattle.vf_hidden.proofs.Giving.{command, contract}
+use Rattle.vf_erasure_laws.proofs.hidden.Coming.{Comes, Leads, behind_comes, none_some, ok_comes, only_leads, then_leads}
+use Rattle.vf_erasure_laws.proofs.hidden.Giving.{command, contract}
 use Rattle.vf_env_laws.proofs.Keeping.{Any, Brings, IsBeside, Keeps, Stands, brings_before, brings_known, err_comes, if_comes, keeps_both, keeps_kept, keeps_same, ok_keeps, passed_comes, then_brings, then_keeps}
 use Rattle.vf_env_laws.proofs.Ghosts.{TakenBehind, TakenFrom, declared_there, next_brings, parameters_keep, seen_keeps, taken_behind}
 

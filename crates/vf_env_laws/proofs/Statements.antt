@@ -26,7 +26,7 @@ use Rattle.vf_walk.specs.Items.{parameters_walked}
 use Rattle.vf_walk.specs.Meanings.{Meanings}
 use Rattle.vf_walk.specs.Statements.{Inner, WalksForBody, WalksForHead, WalksStmt, WalksStmts, condition, count, declaration, declared, first_part, first_value, for_parts, return_refusal, simple, variable, with_variable, without_first}
 use Rattle.vf_walk.specs.Walking.{Only, Walked, behind, optional, unless}
-use Rattle.vf_hidden.proofs.Coming.{Comes, Leads, ok_comes, only_leads}
+use Rattle.vf_erasure_laws.proofs.hidden.Coming.{Comes, Leads, ok_comes, only_leads}
 use Rattle.vf_env.specs.Named.{named_by_form}
 use Rattle.vf_env_laws.proofs.Keeping.{Brings, IsBeside, Keeps, any_comes, behind_keeps, else_comes, keeps_same, ok_keeps, optional_keeps, then_keeps, unless_keeps}
 

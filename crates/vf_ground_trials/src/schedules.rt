@@ -1,7 +1,7 @@
 //! Texts of schedules.
 
 use std::test::Fail;
-use vf_events::{ScheduleFault, one_reading, read_schedule, write_schedule};
+use vf_schedule::{ScheduleFault, one_reading, read_schedule, write_schedule};
 
 /// A text, and what it is after it was read: a pair with the grant 1 is written as its thread alone.
 #[test]

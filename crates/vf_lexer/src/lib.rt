@@ -19,4 +19,3 @@ pub use fault::LexFault;
 pub use lexer::{lex, longest_token, one_reading, tokens_are_slices, tokens_have_their_places};
 pub use punctuator::{Punctuator, longest_punctuator};
 pub use token::{Kind, Token, TokenList};
-

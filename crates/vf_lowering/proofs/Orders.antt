@@ -7,8 +7,8 @@ use Rattle.vf_syntax.specs.StmtTree as tree
 use Rattle.vf_syntax.specs.Statements.{is_command}
 use Rattle.vf_order.specs.Order.{unordered}
 use Rattle.vf_order.specs.Statements.{if_there, unordered_first, unordered_simple, unordered_stmt, unordered_stmts}
-use Rattle.vf_plain.specs.Stripped.{stripped_stmt, stripped_stmts}
-use Rattle.vf_plain.proofs.UnitsKept.{parts_same}
+use Rattle.vf_erasure_laws.specs.plain.Stripped.{stripped_stmt, stripped_stmts}
+use Rattle.vf_erasure_laws.proofs.plain.UnitsKept.{parts_same}
 use Rattle.vf_lowering.specs.Orders.{OrdersArePlain}
 
 -- a ghost command has no operands of real text

@@ -19,9 +19,9 @@ use Rattle.vf_functions.specs.Definitions.{CoreTree}
 use Rattle.vf_functions.specs.Erased.{erased_core}
 use Rattle.vf_functions.specs.Units.{Comes, Lowers}
 use Rattle.vf_functions.specs.Units as functions
-use Rattle.vf_plain.specs.Stripped.{stripped_items}
-use Rattle.vf_erasure.specs.Units.{IsPlainAnswer}
-use Rattle.vf_erasure.proofs.Laws.{plain_readings_are_erased}
+use Rattle.vf_erasure_laws.specs.plain.Stripped.{stripped_items}
+use Rattle.vf_erasure_laws.specs.erased.Units.{IsPlainAnswer}
+use Rattle.vf_erasure_laws.proofs.erased.Laws.{plain_readings_are_erased}
 use Rattle.vf_cores.specs.Shown.{cores_shown}
 use Rattle.vf_erase.specs.declared.function.PlainFunction.{PlainFunction}
 use Rattle.vf_erase.specs.Shown.{plains_shown}

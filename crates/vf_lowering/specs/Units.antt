@@ -18,7 +18,7 @@ use Rattle.vf_resolve.specs.Units.{ItemsCome}
 use Rattle.vf_functions.specs.Definitions.{CoreTree}
 use Rattle.vf_functions.specs.Erased.{PlainTree, erased_core}
 use Rattle.vf_functions.specs.Units.{Lowers}
-use Rattle.vf_plain.specs.Stripped.{stripped_items}
+use Rattle.vf_erasure_laws.specs.plain.Stripped.{stripped_items}
 use Rattle.vf_cores.specs.Shown.{cores_shown}
 use Rattle.vf_erase.specs.declared.function.PlainFunction.{PlainFunction}
 use Rattle.vf_erase.specs.Shown.{plains_shown}

@@ -4,8 +4,8 @@ use crate::texts::{END, none_differs, tokens};
 use std::alloc::Global;
 use vf_base::Memory;
 use vf_lexer::Token;
-use vf_parse_c::fault::ParseFault;
 use vf_parse_part::part::{GhostPart, GhostTree, parse_ghost};
+use vf_parse_real::fault::ParseFault;
 
 /// What comes of a part: the index behind it, or the column at which it is refused, 1 at the end.
 #[derive(Clone, Copy, Debug, PartialEq, Eq)]

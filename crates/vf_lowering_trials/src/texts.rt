@@ -4,8 +4,8 @@ use std::alloc::Global;
 use std::process::Abort;
 use vf_base::{Memory, NumberList, Place, Sequence, Text};
 use vf_lexer::{TokenList, lex};
-use vf_parse::parse::parse;
-use vf_parse_c::plain::parse_plain;
+use vf_parse_real::plain::parse_plain;
+use vf_parse_whole::parse::parse;
 use vf_resolve::Files;
 use vf_syntax::item::Unit;
 

@@ -6,7 +6,7 @@ use std::alloc::Global;
 use std::test::Fail;
 use vf_base::{Memory, Sequence};
 use vf_run::{Limit, Machine, StepFault};
-use vf_turns::turns;
+use vf_schedule::turns;
 
 /// The machine of a main that sets local 0, and then does the same again and again.
 fn endless(alloc: Global, act: Act) -> Result<Machine, Memory> {

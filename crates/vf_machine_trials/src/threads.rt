@@ -5,7 +5,7 @@ use crate::steps::{ACQUIRE, Act, CREATE_MUTEX, DISPOSE, JOIN, RELEASE, START, ST
 use std::test::Fail;
 use vf_model::{FaultKind, Outcome};
 use vf_run::Stepped;
-use vf_turns::turns;
+use vf_schedule::turns;
 
 /// Main creates a mutex and does two things with it; the other function releases what it is given. Each row has the two
 /// things, the thread that goes on then, and how the run stands.

@@ -5,8 +5,8 @@ use crate::steps::{Act, START, at};
 use std::alloc::Global;
 use std::test::Fail;
 use vf_base::Memory;
-use vf_events::Schedule;
 use vf_model::FaultKind;
+use vf_schedule::Schedule;
 use vf_trace::{Finding, trace};
 
 /// So many events of main, the first with that grant.

@@ -4,4 +4,3 @@
 mod names;
 
 pub use names::Names;
-

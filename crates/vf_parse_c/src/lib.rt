@@ -1,10 +1,8 @@
-//! C files: tokens to trees.
+//! A unit's tokens to its tree, with all that is promised of it.
 //!
-//! A tree that is answered spells all of the tokens, and no token of it nests deeper than 128. What is
-//! refused is refused with the place of a token, as `specs/` says of each fault.
+//! Just the units that tokens spell within 128 levels are answered, and each refusal says why: a token that the
+//! language has not, one that no unit has there, or one that stands too deep.
 #![tactic(auto)]
 
-pub mod fault;
 pub mod plain;
-pub mod unit;
-pub mod unsupported;
+pub mod whole;

@@ -1,73 +1,53 @@
-//! Files as a C compiler reads them: the tokens of real text alone.
+//! Units as a C compiler reads them.
 
-ghost use Rattle.std.specs.Prelude.{◌≡◌, IfOk, Some, None, Err, ◌⊎◌};
+ghost use Rattle.std.specs.Prelude.{◌≡◌, IfOk, Some, None, Err};
 ghost use Rattle.vf_base.specs.declared.place.Place.{Place};
+ghost use Rattle.vf_syntax.specs.declared.item.Unit.{Unit as FileUnit};
 ghost use Rattle.vf_syntax.specs.declared.side.Grammar.TheVariants.{Plain};
 ghost use Rattle.vf_syntax.specs.Units.{Spells};
-ghost use Rattle.vf_parse_c.specs.declared.fault.ParseFault.TheVariants as parse_faults;
-ghost use Rattle.vf_parse_c.specs.Units.{plain_at, real_tokens};
-ghost use Rattle.vf_parse_c.specs.Faults.{Answers};
-ghost use Rattle.vf_parse_c.specs.Unsupported.{first_unsupported};
+ghost use Rattle.vf_parse_real.specs.declared.fault.ParseFault.TheVariants as parse_faults;
+ghost use Rattle.vf_parse_real.specs.Faults.{Answers};
+ghost use Rattle.vf_parse_real.specs.Units.{plain_at, real_tokens};
+ghost use Rattle.vf_parse_real.specs.Unsupported.{first_unsupported};
+ghost use Rattle.vf_grammar_read.specs.units.Laws.{IsRead};
+ghost use Rattle.vf_grammar_stops.specs.units.Laws.{NoUnitBegins};
+ghost use Rattle.vf_grammar_depth.specs.units.Deep.{GoesOnWith};
 
-use crate::fault::ParseFault;
-use crate::unit::parse_supported;
-use crate::unsupported::first_unsupported;
 use std::alloc::Global;
-use vf_base::{Memory, NumberList, Place, Sequence};
-use vf_lexer::{Token, TokenList};
-use vf_parse_statement::annotations::NoGhost;
+use vf_expand::UnitTokens;
+use vf_parse_real::fault::ParseFault;
+use vf_parse_real::plain::parse_plain as parse_real;
+use vf_parse_real::unsupported::first_unsupported;
 use vf_syntax::item::Unit;
-use vf_syntax::side::Grammar;
 
-/// A token like another.
-fn copied(token: &Token) -> Result<Token, Memory>
-    ensures { IfOk result (λ t. t ≡ token.now) }
+/// The tree of the tokens of real text of a unit, or where reading it stops.
+fn read(alloc: Global, unit: &UnitTokens) -> Result<Unit, ParseFault>
+    ensures spelled { IfOk result (λ u. Spells Plain 128 u (real_tokens unit.now.tokens)) }
+    ensures unsupported { (p : Place) → first_unsupported unit.now.tokens ≡ Some p → result ≡ Err (parse_faults.Unsupported p) }
+    ensures read { first_unsupported unit.now.tokens ≡ None → Answers result unit.now.end (real_tokens unit.now.tokens) (plain_at 128 (real_tokens unit.now.tokens)) }
+    ensures headers { IfOk result (λ u. u.headers ≡ unit.now.headers) }
 {
-    Ok(Token {
-        kind: token.kind,
-        text: token.text.copy()?,
-        start: token.start,
-        end: token.end,
-        place: token.place,
-        is_ghost: token.is_ghost,
-    })
-}
-
-/// The tokens of real text.
-fn real_tokens(alloc: Global, tokens: &[Token]) -> Result<TokenList, Memory>
-    ensures { IfOk result (λ ts. ts ≡ real_tokens tokens.now) }
-{
-    let mut real = Sequence::new(alloc);
-    for token in tokens {
-        if !token.is_ghost {
-            real.push(copied(token)?)?;
-        }
-    }
-    Ok(real)
-}
-
-/// Reads the tokens of real text of a file by the grammar without annotations.
-pub fn parse_plain(
-    alloc: Global,
-    tokens: &[Token],
-    headers: NumberList,
-    end: Place,
-) -> Result<Unit, ParseFault>
-    ensures spelled { IfOk result (λ u. Spells Plain 128 u (real_tokens tokens.now)) }
-    ensures unsupported { (p : Place) → first_unsupported tokens.now ≡ Some p → result ≡ Err (parse_faults.Unsupported p) }
-    ensures read { first_unsupported tokens.now ≡ None → Answers result end (real_tokens tokens.now) (plain_at 128 (real_tokens tokens.now)) }
-    ensures headers { IfOk result (λ u. u.headers ≡ headers) }
-{
-    if let Some(place) = first_unsupported(tokens) {
+    if let Some(place) = first_unsupported(unit.tokens.as_slice()) {
         return Err(ParseFault::Unsupported(place));
     }
-    let real = real_tokens(alloc, tokens)?;
-    parse_supported(
-        alloc,
-        &NoGhost,
-        Grammar::Plain,
-        real.as_slice(),
-        headers,
-        end,
-    )
+    let headers = unit.headers.copy()?;
+    parse_real(alloc, unit.tokens.as_slice(), headers, unit.end)
+}
+
+/// Reads the tokens of real text of a unit by the grammar without annotations.
+///
+/// # Errors
+///
+/// As of [`parse`](crate::whole::parse), for the tokens of real text and that grammar.
+pub fn parse_plain(alloc: Global, unit: &UnitTokens) -> Result<Unit, ParseFault>
+    ensures spelled { IfOk result (λ u. Spells Plain 128 u (real_tokens unit.now.tokens)) }
+    ensures only { (u : FileUnit) → Spells Plain 128 u (real_tokens unit.now.tokens) → IsRead result u }
+    ensures unsupported { (p : Place) → first_unsupported unit.now.tokens ≡ Some p → result ≡ Err (parse_faults.Unsupported p) }
+    ensures named { (p : Place) → result ≡ Err (parse_faults.Unsupported p) → first_unsupported unit.now.tokens ≡ Some p }
+    ensures syntax { (p : Place) → result ≡ Err (parse_faults.Syntax p) → (first_unsupported unit.now.tokens ≡ None) × NoUnitBegins Plain (real_tokens unit.now.tokens) unit.now.end p }
+    ensures depth { (p : Place) → result ≡ Err (parse_faults.Depth p) → (first_unsupported unit.now.tokens ≡ None) × GoesOnWith plain_at 128 (real_tokens unit.now.tokens) p }
+    ensures read { first_unsupported unit.now.tokens ≡ None → Answers result unit.now.end (real_tokens unit.now.tokens) (plain_at 128 (real_tokens unit.now.tokens)) }
+    ensures headers { IfOk result (λ u. u.headers ≡ unit.now.headers) }
+{
+    read(alloc, unit)
 }

@@ -13,8 +13,8 @@ use Rattle.vf_parse_ghost.specs.Clauses.{claim_at, contract_at, invariant_at}
 use Rattle.vf_parse_ghost.specs.Items.{item_at}
 use Rattle.vf_parse_ghost.proofs.ContractsRead.{claim_sound, contract_sound, invariant_sound}
 use Rattle.vf_parse_ghost.proofs.ItemsRead.{item_sound}
-use Rattle.vf_parse_c.specs.declared.fault.ParseFault.TheVariants as parse_faults
-use Rattle.vf_parse_c.specs.Faults.{stop_of, fault_of}
+use Rattle.vf_parse_real.specs.declared.fault.ParseFault.TheVariants as parse_faults
+use Rattle.vf_parse_real.specs.Faults.{stop_of, fault_of}
 use Rattle.vf_parse_part.specs.declared.part.GhostPart.{GhostPart}
 use Rattle.vf_parse_part.specs.declared.part.GhostPart.TheVariants as parts
 use Rattle.vf_parse_part.specs.declared.part.GhostTree.{GhostTree}

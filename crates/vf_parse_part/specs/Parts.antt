@@ -11,9 +11,9 @@ use Rattle.vf_cursor.specs.Parsing.{Parser, Read, ◌>>=◌, ok}
 use Rattle.vf_parse_command.specs.Commands.{command_at}
 use Rattle.vf_parse_ghost.specs.Clauses.{claim_at, contract_at, invariant_at}
 use Rattle.vf_parse_ghost.specs.Items.{item_at}
-use Rattle.vf_parse_c.specs.declared.fault.ParseFault.{ParseFault}
-use Rattle.vf_parse_c.specs.declared.fault.ParseFault.TheVariants as parse_faults
-use Rattle.vf_parse_c.specs.Faults.{fault_of}
+use Rattle.vf_parse_real.specs.declared.fault.ParseFault.{ParseFault}
+use Rattle.vf_parse_real.specs.declared.fault.ParseFault.TheVariants as parse_faults
+use Rattle.vf_parse_real.specs.Faults.{fault_of}
 use Rattle.vf_parse_part.specs.declared.part.GhostPart.{GhostPart}
 use Rattle.vf_parse_part.specs.declared.part.GhostPart.TheVariants as parts
 use Rattle.vf_parse_part.specs.declared.part.GhostTree.{GhostTree}

@@ -5,22 +5,22 @@ use Rattle.vf_lexer.specs.declared.token.Token.{Token}
 use Rattle.vf_cursor.specs.declared.fault.Fault.{Fault}
 use Rattle.vf_cursor.specs.declared.fault.Fault.TheVariants as faults
 use Rattle.vf_cursor.specs.Parsing.{Parser}
-use Rattle.vf_parse_c.specs.declared.fault.ParseFault.{ParseFault}
-use Rattle.vf_parse_c.specs.declared.fault.ParseFault.TheVariants as parse_faults
-use Rattle.vf_parse_c.specs.Faults.{place_at, fault_of}
+use Rattle.vf_parse_real.specs.declared.fault.ParseFault.{ParseFault}
+use Rattle.vf_parse_real.specs.declared.fault.ParseFault.TheVariants as parse_faults
+use Rattle.vf_parse_real.specs.Faults.{place_at, fault_of}
 use Rattle.vf_parse_part.specs.declared.part.GhostPart.{GhostPart}
 use Rattle.vf_parse_part.specs.declared.part.GhostPart.TheVariants as parts
 use Rattle.vf_parse_part.specs.declared.part.GhostTree.{GhostTree}
 use Rattle.vf_parse_part.specs.declared.part.GhostTree.TheVariants as trees
 use Rattle.vf_parse_part.specs.Parts.{as_tree, part_at, PartAnswers}
-use Rattle.vf_deep_expression.specs.Deep.{GoesPast, IsNotTooDeep}
-use Rattle.vf_deep_expression.proofs.Deeper.{Deeper, then_deep, done_deep}
-use Rattle.vf_deep_expression.proofs.Answers.{within}
-use Rattle.vf_deep_unit.proofs.Places.{split, some_left, deepened}
-use Rattle.vf_deep_term.proofs.Whole.{RisesByTwo, answers_deepen_by_two}
-use Rattle.vf_deep_command.proofs.Whole.{command_rises}
-use Rattle.vf_deep_ghost.proofs.Clauses.{claim_deep}
-use Rattle.vf_deep_ghost.proofs.Whole.{contract_rises, invariant_rises, item_rises}
+use Rattle.vf_grammar_depth.specs.expressions.Deep.{GoesPast, IsNotTooDeep}
+use Rattle.vf_grammar_depth.proofs.expressions.Deeper.{Deeper, then_deep, done_deep}
+use Rattle.vf_grammar_depth.proofs.expressions.Answers.{within}
+use Rattle.vf_grammar_depth.proofs.units.Places.{split, some_left, deepened}
+use Rattle.vf_grammar_depth.proofs.terms.Whole.{RisesByTwo, answers_deepen_by_two}
+use Rattle.vf_grammar_depth.proofs.commands.Whole.{command_rises}
+use Rattle.vf_grammar_depth.proofs.ghost_items.Clauses.{claim_deep}
+use Rattle.vf_grammar_depth.proofs.ghost_items.Whole.{contract_rises, invariant_rises, item_rises}
 use Rattle.vf_part.specs.Laws.{AnswersPart, PartGoesOn}
 use Rattle.vf_part.proofs.Refused.{place_is}
 

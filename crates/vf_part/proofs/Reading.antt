@@ -11,15 +11,15 @@ use Rattle.vf_parse_part.specs.declared.part.GhostPart.TheVariants as parts
 use Rattle.vf_parse_part.specs.declared.part.GhostTree.{GhostTree}
 use Rattle.vf_parse_part.specs.declared.part.GhostTree.TheVariants as trees
 use Rattle.vf_parse_part.specs.Parts.{as_tree, part_at, part, part_nesting, kind_of}
-use Rattle.vf_full_command.proofs.CommandsFull.{command_full}
-use Rattle.vf_full_ghost.proofs.Clauses.{claim_full, contract_full, invariant_full}
-use Rattle.vf_full_ghost.proofs.ItemsFull.{item_full}
-use Rattle.vf_stop_type.specs.Stops.{BeginsUpTo}
-use Rattle.vf_stop_type.proofs.Local.{Does, then_like, done_like, stops_too}
-use Rattle.vf_stop_term.proofs.Stops.{apart}
-use Rattle.vf_stop_command.proofs.CommandsAlike.{command_like}
-use Rattle.vf_stop_ghost.proofs.ClausesAlike.{claim_like, contract_like, invariant_like}
-use Rattle.vf_stop_ghost.proofs.ItemsAlike.{item_like}
+use Rattle.vf_grammar_read.proofs.commands.CommandsFull.{command_full}
+use Rattle.vf_grammar_read.proofs.ghost_items.Clauses.{claim_full, contract_full, invariant_full}
+use Rattle.vf_grammar_read.proofs.ghost_items.ItemsFull.{item_full}
+use Rattle.vf_grammar_stops.specs.types.Stops.{BeginsUpTo}
+use Rattle.vf_grammar_stops.proofs.types.Local.{Does, then_like, done_like, stops_too}
+use Rattle.vf_grammar_stops.proofs.terms.Stops.{apart}
+use Rattle.vf_grammar_stops.proofs.commands.CommandsAlike.{command_like}
+use Rattle.vf_grammar_stops.proofs.ghost_items.ClausesAlike.{claim_like, contract_like, invariant_like}
+use Rattle.vf_grammar_stops.proofs.ghost_items.ItemsAlike.{item_like}
 use Rattle.vf_part.specs.Laws.{EndsPart}
 
 -- a tree that is made of what is read

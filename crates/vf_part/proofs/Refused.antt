@@ -7,14 +7,14 @@ use Rattle.vf_lexer.specs.declared.token.Token.{Token}
 use Rattle.vf_cursor.specs.declared.fault.Fault.{Fault}
 use Rattle.vf_cursor.specs.declared.fault.Fault.TheVariants as faults
 use Rattle.vf_cursor.specs.Parsing.{Read}
-use Rattle.vf_parse_c.specs.declared.fault.ParseFault.{ParseFault}
-use Rattle.vf_parse_c.specs.declared.fault.ParseFault.TheVariants as parse_faults
-use Rattle.vf_parse_c.specs.Faults.{place_or, place_at, fault_of}
+use Rattle.vf_parse_real.specs.declared.fault.ParseFault.{ParseFault}
+use Rattle.vf_parse_real.specs.declared.fault.ParseFault.TheVariants as parse_faults
+use Rattle.vf_parse_real.specs.Faults.{place_or, place_at, fault_of}
 use Rattle.vf_parse_part.specs.declared.part.GhostPart.{GhostPart}
 use Rattle.vf_parse_part.specs.declared.part.GhostTree.{GhostTree}
 use Rattle.vf_parse_part.specs.Parts.{part_at, part, kind_of, PartAnswers}
-use Rattle.vf_stop_type.specs.Stops.{first, BeginsUpTo}
-use Rattle.vf_stop_type.proofs.Local.{LikeAt, Stopped}
+use Rattle.vf_grammar_stops.specs.types.Stops.{first, BeginsUpTo}
+use Rattle.vf_grammar_stops.proofs.types.Local.{LikeAt, Stopped}
 use Rattle.vf_part.specs.Laws.{AnswersPart, NoPartBegins, EndsPart}
 use Rattle.vf_part.proofs.Reading.{part_like, parts_stop}
 

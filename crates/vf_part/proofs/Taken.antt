@@ -6,13 +6,13 @@ use Rattle.vf_lexer.specs.declared.token.Token.{Token}
 use Rattle.vf_cursor.specs.declared.fault.Fault.{Fault}
 use Rattle.vf_cursor.specs.Parsing.{Read, ok}
 use Rattle.vf_cursor.proofs.Facts.{ok_pair}
-use Rattle.vf_parse_c.specs.declared.fault.ParseFault.{ParseFault}
-use Rattle.vf_parse_c.specs.declared.fault.ParseFault.TheVariants as parse_faults
+use Rattle.vf_parse_real.specs.declared.fault.ParseFault.{ParseFault}
+use Rattle.vf_parse_real.specs.declared.fault.ParseFault.TheVariants as parse_faults
 use Rattle.vf_parse_part.specs.declared.part.GhostPart.{GhostPart}
 use Rattle.vf_parse_part.specs.declared.part.GhostTree.{GhostTree}
 use Rattle.vf_parse_part.specs.Parts.{part_at, part, part_nesting, kind_of, IsPart, PartAnswers, PartRefused}
 use Rattle.vf_parse_part.proofs.PartsRead.{parts_are_spelled}
-use Rattle.vf_stop_type.proofs.Local.{LikeAt, Went}
+use Rattle.vf_grammar_stops.proofs.types.Local.{LikeAt, Went}
 use Rattle.vf_part.specs.Laws.{AnswersPart, IsTaken, EndsPart, IsAnswered}
 use Rattle.vf_part.proofs.Reading.{part_full, part_like}
 

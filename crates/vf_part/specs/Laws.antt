@@ -5,15 +5,15 @@ use Rattle.vf_lexer.specs.declared.token.Token.{Token}
 use Rattle.vf_syntax.specs.declared.keyword.Keyword.TheVariants.{Else}
 use Rattle.vf_syntax.specs.declared.side.Side.TheVariants.{Ghost}
 use Rattle.vf_syntax.specs.Walks.{head_has, is_word}
-use Rattle.vf_parse_c.specs.declared.fault.ParseFault.{ParseFault}
-use Rattle.vf_parse_c.specs.declared.fault.ParseFault.TheVariants as parse_faults
-use Rattle.vf_parse_c.specs.Faults.{place_or}
+use Rattle.vf_parse_real.specs.declared.fault.ParseFault.{ParseFault}
+use Rattle.vf_parse_real.specs.declared.fault.ParseFault.TheVariants as parse_faults
+use Rattle.vf_parse_real.specs.Faults.{place_or}
 use Rattle.vf_parse_part.specs.declared.part.GhostPart.{GhostPart}
 use Rattle.vf_parse_part.specs.declared.part.GhostPart.TheVariants as parts
 use Rattle.vf_parse_part.specs.declared.part.GhostTree.{GhostTree}
 use Rattle.vf_parse_part.specs.Parts.{part_at, part, part_nesting, kind_of, PartAnswers}
-use Rattle.vf_stop_type.specs.Stops.{first}
-use Rattle.vf_deep_expression.specs.Deep.{GoesPast, IsNotTooDeep}
+use Rattle.vf_grammar_stops.specs.types.Stops.{first}
+use Rattle.vf_grammar_depth.specs.expressions.Deep.{GoesPast, IsNotTooDeep}
 
 -- what is known of an answer for a part of a kind from an index of the tokens on: it is what reading the tokens behind the index comes to
 abbrev pub AnswersPart : Result (GhostTree × ℕ) ParseFault → GhostPart → Place → List Token → ℕ → Type 0

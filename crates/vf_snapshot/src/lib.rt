@@ -8,4 +8,3 @@ mod snapshot;
 pub use held::{Held, SnapFault};
 pub use path::{normal_path, normal_path_of_bytes};
 pub use snapshot::Snapshot;
-

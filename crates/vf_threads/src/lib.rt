@@ -4,4 +4,3 @@
 mod headers;
 
 pub use headers::prelude;
-

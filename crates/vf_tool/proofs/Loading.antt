@@ -5,7 +5,7 @@ use Rattle.std.specs.FinMap.{get}
 use Rattle.std.proofs.lemmas.List.{length-take, take_all}
 use Rattle.vf_base.specs.Outside.{Contents, IsFront}
 use Rattle.vf_model.specs.declared.words.Event.{Event}
-use Rattle.vf_events.specs.Schedules.{IsScheduleText}
+use Rattle.vf_schedule.specs.texts.Schedules.{IsScheduleText}
 use Rattle.vf_tool.specs.Loaded.{HasSchedule, HasNoSchedule, most_schedule}
 
 -- a value that is there, with its fact

@@ -10,11 +10,11 @@ use Rattle.vf_syntax.specs.declared.item.Unit as units
 use Rattle.vf_cursor.specs.declared.fault.Fault.{Fault as ReadFault}
 use Rattle.vf_cursor.specs.declared.fault.Fault.TheVariants as read_faults
 use Rattle.vf_cursor.specs.Parsing.{Read}
-use Rattle.vf_parse_c.specs.declared.fault.ParseFault.{ParseFault}
-use Rattle.vf_parse_c.specs.declared.fault.ParseFault.TheVariants as parse_faults
-use Rattle.vf_parse_c.specs.Faults.{Answers, place_at, fault_of}
-use Rattle.vf_parse_c.specs.Unsupported.{first_unsupported}
-use Rattle.vf_parse.specs.Wholes.{whole_at}
+use Rattle.vf_parse_real.specs.declared.fault.ParseFault.{ParseFault}
+use Rattle.vf_parse_real.specs.declared.fault.ParseFault.TheVariants as parse_faults
+use Rattle.vf_parse_real.specs.Faults.{Answers, place_at, fault_of}
+use Rattle.vf_parse_real.specs.Unsupported.{first_unsupported}
+use Rattle.vf_parse_whole.specs.Wholes.{whole_at}
 use Rattle.vf_preproc.specs.UnitText.{Text_of_unit}
 use Rattle.vf_tree.specs.declared.unit.Core.{Core}
 use Rattle.vf_snapshot.specs.Holdings.{Holdings}

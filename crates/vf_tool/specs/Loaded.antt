@@ -3,7 +3,7 @@ use Rattle.std.specs.Prelude.{◌≡◌, ℕ, ◌≤◌, List, length, Some}
 use Rattle.std.specs.FinMap.{get}
 use Rattle.vf_base.specs.Outside.{FileMap}
 use Rattle.vf_model.specs.declared.words.Event.{Event}
-use Rattle.vf_events.specs.Schedules.{IsScheduleText}
+use Rattle.vf_schedule.specs.texts.Schedules.{IsScheduleText}
 
 -- the most bytes of a schedule
 abbrev pub most_schedule : ℕ

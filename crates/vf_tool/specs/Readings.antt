@@ -17,11 +17,11 @@ use Rattle.vf_syntax.specs.declared.item.Item.{Item}
 use Rattle.vf_cursor.specs.declared.fault.Fault.{Fault as ReadFault}
 use Rattle.vf_cursor.specs.declared.fault.Fault.TheVariants as read_faults
 use Rattle.vf_cursor.specs.Parsing.{Read}
-use Rattle.vf_parse_c.specs.declared.fault.ParseFault.{ParseFault}
-use Rattle.vf_parse_c.specs.declared.fault.ParseFault.TheVariants as parse_faults
-use Rattle.vf_parse_c.specs.Faults.{place_at}
-use Rattle.vf_parse_c.specs.Unsupported.{first_unsupported}
-use Rattle.vf_parse.specs.Wholes.{whole_at}
+use Rattle.vf_parse_real.specs.declared.fault.ParseFault.{ParseFault}
+use Rattle.vf_parse_real.specs.declared.fault.ParseFault.TheVariants as parse_faults
+use Rattle.vf_parse_real.specs.Faults.{place_at}
+use Rattle.vf_parse_real.specs.Unsupported.{first_unsupported}
+use Rattle.vf_parse_whole.specs.Wholes.{whole_at}
 use Rattle.vf_tree.specs.declared.unit.Core.{Core}
 use Rattle.vf_resolve.specs.declared.files.Files.{Files}
 use Rattle.vf_resolve.specs.UnitFiles.{files_of}

@@ -8,7 +8,7 @@ ghost use Rattle.vf_tool.specs.Status.{stop_of};
 use crate::status::Stop;
 use std::alloc::Global;
 use vf_base::{FileFault, Files};
-use vf_events::{Schedule, ScheduleFault, read_schedule};
+use vf_schedule::{Schedule, ScheduleFault, read_schedule};
 
 /// The most bytes of a schedule.
 const MOST_SCHEDULE: u64 = 16_777_216;

@@ -17,13 +17,13 @@ use vf_base::{Files, Memory, Place, Refusal, Rule, RuleFault, Shown};
 use vf_contractless::missing_contract;
 use vf_expand::{UnitTokens, expand};
 use vf_first::first_form;
-use vf_parse_c::fault::ParseFault;
+use vf_parse_c::whole::parse;
+use vf_parse_real::fault::ParseFault;
 use vf_phases::check_names;
 use vf_preproc::ExpandFault;
 use vf_snapshot::Snapshot;
 use vf_syntax::item::Unit;
 use vf_tree::Core;
-use vf_unit::whole::parse;
 
 /// What came of reading a file.
 #[derive(Debug, Drop)]

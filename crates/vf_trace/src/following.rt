@@ -11,9 +11,9 @@ ghost use Rattle.vf_trace.specs.Traces.{ComesTo, IsFound, IsTraced};
 use crate::sight::{Sight, look};
 use vf_base::Place;
 use vf_engine::StepFault;
-use vf_events::Schedule;
 use vf_model::{Event, FaultKind};
 use vf_run::Machine;
+use vf_schedule::Schedule;
 
 /// What a run shows. `after` is how many events were taken before it is seen.
 #[derive(Clone, Copy, Debug, PartialEq, Eq)]

@@ -1,7 +1,0 @@
-use Rattle.vf_parse_chunk.specs.Chunks.{cell_at}
-use Rattle.vf_deep_term.proofs.Whole.{answers_deepen_by_two}
-use Rattle.vf_deep_chunk.proofs.Whole.{cell_rises}
-use Rattle.vf_deep_chunk.proofs.laws.cells_deepen.Goals as goal
-
-pub returns : goal.returns
-returns c = λ p s e d m ts lt. answers_deepen_by_two (λ n. cell_at n p s e) (cell_rises p s e) d m ts lt

@@ -1,4 +1,0 @@
-//! What the parser of that with which a part of an assertion begins refuses as too deep, it goes past where more may nest.
-#![tactic(auto)]
-
-pub mod laws;

@@ -1,7 +1,0 @@
-use Rattle.vf_parse_pattern.specs.Patterns.{pattern_at}
-use Rattle.vf_deep_term.proofs.Whole.{answers_deepen_by_two}
-use Rattle.vf_deep_pattern.proofs.Whole.{pattern_rises}
-use Rattle.vf_deep_pattern.proofs.laws.patterns_deepen.Goals as goal
-
-pub returns : goal.returns
-returns c = λ d m ts lt. answers_deepen_by_two pattern_at pattern_rises d m ts lt

@@ -1,8 +1,0 @@
-use Rattle.vf_parse_expression.specs.Parsers.{expr_at, postfix_at}
-use Rattle.vf_parse_simple.specs.Simples.{simple_at}
-use Rattle.vf_deep_expression.proofs.Answers.{answers_deepen}
-use Rattle.vf_deep_statement.proofs.Whole.{simples_rise}
-use Rattle.vf_deep_statement.proofs.laws.simples_deepen.Goals as goal
-
-pub returns : goal.returns
-returns c = λ d m ts lt. answers_deepen (λ n. simple_at (expr_at n) (postfix_at n)) simples_rise d m ts lt

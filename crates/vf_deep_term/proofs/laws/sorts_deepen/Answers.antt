@@ -1,7 +1,0 @@
-use Rattle.vf_parse_term.specs.Sorts.{sort_at}
-use Rattle.vf_deep_expression.proofs.Answers.{answers_deepen}
-use Rattle.vf_deep_term.proofs.Whole.{sort_rises}
-use Rattle.vf_deep_term.proofs.laws.sorts_deepen.Goals as goal
-
-pub returns : goal.returns
-returns c = λ d m ts lt. answers_deepen sort_at sort_rises d m ts lt

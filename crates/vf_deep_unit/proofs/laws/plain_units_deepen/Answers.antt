@@ -1,7 +1,0 @@
-use Rattle.vf_parse_c.specs.Units.{plain_at}
-use Rattle.vf_deep_expression.proofs.Answers.{answers_deepen}
-use Rattle.vf_deep_unit.proofs.Places.{plain_units_rise}
-use Rattle.vf_deep_unit.proofs.laws.plain_units_deepen.Goals as goal
-
-pub returns : goal.returns
-returns c = λ d m ts lt. answers_deepen plain_at plain_units_rise d m ts lt

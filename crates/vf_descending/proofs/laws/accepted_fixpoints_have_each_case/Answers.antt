@@ -1,5 +1,0 @@
-use Rattle.vf_descending.proofs.Units.{accepted_fixpoints_have_each_case}
-use Rattle.vf_descending.proofs.laws.accepted_fixpoints_have_each_case.Goals as goal
-
-pub returns : goal.returns
-returns c = accepted_fixpoints_have_each_case

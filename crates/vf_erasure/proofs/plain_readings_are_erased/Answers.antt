@@ -1,5 +1,0 @@
-use Rattle.vf_erasure.proofs.Laws.{plain_readings_are_erased}
-use Rattle.vf_erasure.proofs.plain_readings_are_erased.Goals as goal
-
-pub returns : goal.returns
-returns c = plain_readings_are_erased

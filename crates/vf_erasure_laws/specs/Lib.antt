@@ -1,0 +1,4 @@
+pub mod seen
+pub mod hidden
+pub mod plain
+pub mod erased

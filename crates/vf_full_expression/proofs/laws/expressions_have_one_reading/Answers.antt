@@ -1,5 +1,0 @@
-use Rattle.vf_full_expression.proofs.OneReading.{one_expression}
-use Rattle.vf_full_expression.proofs.laws.expressions_have_one_reading.Goals as goal
-
-pub returns : goal.returns
-returns c = λ x y ts rest h k free. one_expression x y ts rest h k free

@@ -1,8 +1,0 @@
-use Rattle.vf_full_pattern.proofs.SharesFull.{share_full, any_share_full}
-use Rattle.vf_full_pattern.proofs.laws.shares_are_read.Goals as goal
-
-pub returns-clause-whole : goal.returns-clause-whole
-returns-clause-whole c = share_full
-
-pub returns-clause-any : goal.returns-clause-any
-returns-clause-any c = any_share_full

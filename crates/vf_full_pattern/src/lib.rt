@@ -1,7 +1,0 @@
-//! Whatever spells a share, a pattern or what a case is for is read as that.
-//!
-//! The parsers on lists of `vf_parse_pattern` read what the relation of `vf_syntax` spells: here stand the laws
-//! that nothing spelled is refused.
-#![tactic(auto)]
-
-pub mod laws;

@@ -1,7 +1,0 @@
-use Rattle.vf_parse_expression.specs.Parsers.{expr_at, postfix_at}
-use Rattle.vf_full_expression.proofs.ExprFull.{expr_full, postfix_full}
-use Rattle.vf_full_simple.proofs.SimplesFull.{closed, simple_full}
-use Rattle.vf_full_simple.proofs.laws.simples_are_read.Goals as goal
-
-pub returns : goal.returns
-returns c = λ d x ts rest h deep free. simple_full (expr_at d) (postfix_at d) d (expr_full d) (postfix_full d) x ts rest h deep (closed rest free)

@@ -1,4 +1,0 @@
-//! Whatever spells an assignment, a call or a declaration is read as that.
-#![tactic(auto)]
-
-pub mod laws;

@@ -1,5 +1,0 @@
-use Rattle.vf_full_statement.proofs.StmtFull.{one_body}
-use Rattle.vf_full_statement.proofs.laws.plain_bodies_have_one_reading.Goals as goal
-
-pub returns : goal.returns
-returns n = λ x y ts rest h k. one_body x y ts rest h k

@@ -1,6 +1,0 @@
-//! Whatever spells a statement or a body is read as that.
-//!
-//! The parsers of annotations are given from outside, so the laws say what is owed of them.
-#![tactic(auto)]
-
-pub mod laws;

@@ -1,6 +1,0 @@
-use Rattle.vf_full_term.proofs.TermsFull.{term_full, most_loose}
-use Rattle.vf_full_term.proofs.Behind.{ended}
-use Rattle.vf_full_term.proofs.laws.terms_are_read.Goals as goal
-
-pub returns : goal.returns
-returns c = λ d x ts rest h deep free. term_full d x ts rest h deep (most_loose x) (ended rest free)

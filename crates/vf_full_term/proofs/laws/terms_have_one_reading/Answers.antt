@@ -1,5 +1,0 @@
-use Rattle.vf_full_term.proofs.TermsFull.{one_term}
-use Rattle.vf_full_term.proofs.laws.terms_have_one_reading.Goals as goal
-
-pub returns : goal.returns
-returns c = λ x y ts rest h k free. one_term x y ts rest h k free

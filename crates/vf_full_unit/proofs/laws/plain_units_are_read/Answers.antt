@@ -1,5 +1,0 @@
-use Rattle.vf_full_unit.proofs.UnitFull.{plain_units_read}
-use Rattle.vf_full_unit.proofs.laws.plain_units_are_read.Goals as goal
-
-pub returns : goal.returns
-returns n = λ d u ts s. plain_units_read d u ts s

@@ -1,0 +1,10 @@
+pub mod expressions
+pub mod statements
+pub mod units
+pub mod terms
+pub mod patterns
+pub mod chunks
+pub mod assertions
+pub mod commands
+pub mod ghost_items
+pub mod whole_units

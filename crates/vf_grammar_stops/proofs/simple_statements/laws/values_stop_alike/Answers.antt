@@ -1,0 +1,5 @@
+use Rattle.vf_grammar_stops.proofs.simple_statements.Stops.{values_stop}
+use Rattle.vf_grammar_stops.proofs.simple_statements.laws.values_stop_alike.Goals as goal
+
+pub returns : goal.returns
+returns c = λ d ts other rest k x e begins h free none. values_stop d ts other rest k x e begins h free none

@@ -1,0 +1,5 @@
+use Rattle.vf_grammar_stops.proofs.terms.Stops.{terms_stop}
+use Rattle.vf_grammar_stops.proofs.terms.laws.terms_stop_alike.Goals as goal
+
+pub returns : goal.returns
+returns c = λ d ts other rest n x e begins h free. terms_stop d ts other rest n x e begins h free

@@ -1,0 +1,6 @@
+//! Where the parsers of shares, patterns and cases stop, nothing of the kind could go on.
+//!
+//! Each parser on lists of `vf_parse_pattern` does the same on other tokens that are alike up to the token in front
+//! of which it stopped, also where the others may nest deeper.
+
+pub mod laws;

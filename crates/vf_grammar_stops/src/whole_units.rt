@@ -1,0 +1,3 @@
+//! Where the parser of whole units stops, it stops on all tokens that begin alike, and no unit could go on.
+
+pub mod laws;

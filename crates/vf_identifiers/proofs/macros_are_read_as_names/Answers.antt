@@ -1,5 +1,0 @@
-use Rattle.vf_identifiers.proofs.Macro.{macros_are_names}
-use Rattle.vf_identifiers.proofs.macros_are_read_as_names.Goals as goal
-
-pub returns : goal.returns
-returns c = macros_are_names

@@ -1,5 +1,0 @@
-use Rattle.vf_keeping.proofs.Numbers.{numbers_keep_sorts}
-use Rattle.vf_keeping.proofs.laws.numbers_keep_sorts.Goals as goal
-
-pub returns : goal.returns
-returns c = numbers_keep_sorts

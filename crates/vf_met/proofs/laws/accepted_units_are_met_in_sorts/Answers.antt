@@ -1,5 +1,0 @@
-use Rattle.vf_met.proofs.Accepted.{accepted_units_are_met_in_sorts}
-use Rattle.vf_met.proofs.laws.accepted_units_are_met_in_sorts.Goals as goal
-
-pub returns : goal.returns
-returns c = accepted_units_are_met_in_sorts

@@ -1,6 +1,0 @@
-use Rattle.std.proofs.Common.{◌≡◌, take}
-use Rattle.vf_parse_c.specs.Units.{real_tokens}
-use Rattle.vf_parse_c.proofs.plain.real_tokens.Given as goal
-
-abbrev pub invariant-loop-token : goal.invariant-loop-token
-invariant-loop-token l = l.real ≡ real_tokens (take l.token-index l.tokens)

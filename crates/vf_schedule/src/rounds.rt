@@ -1,0 +1,10 @@
+//! Runs in which the threads take turns.
+//!
+//! [`turns`] takes events from a machine's state on: thread after thread takes up to a number of
+//! events, the threads going round, until so many events are taken or no thread can step. The events
+//! that were taken are logged, so that the run can be repeated.
+
+mod event;
+mod turning;
+
+pub use turning::turns;

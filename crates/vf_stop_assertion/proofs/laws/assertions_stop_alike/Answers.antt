@@ -1,5 +1,0 @@
-use Rattle.vf_stop_assertion.proofs.Stops.{assertions_stop}
-use Rattle.vf_stop_assertion.proofs.laws.assertions_stop_alike.Goals as goal
-
-pub returns : goal.returns
-returns c = λ d ts other rest n xs e begins h free. assertions_stop d ts other rest n xs e begins h free

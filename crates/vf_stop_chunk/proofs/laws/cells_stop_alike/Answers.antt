@@ -1,5 +1,0 @@
-use Rattle.vf_stop_chunk.proofs.Stops.{cells_stop}
-use Rattle.vf_stop_chunk.proofs.laws.cells_stop_alike.Goals as goal
-
-pub returns : goal.returns
-returns c = λ d p e ts other rest k f v eq begins h free. cells_stop d p e ts other rest k f v eq begins h free

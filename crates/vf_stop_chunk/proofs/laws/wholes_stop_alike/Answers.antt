@@ -1,5 +1,0 @@
-use Rattle.vf_stop_chunk.proofs.Stops.{wholes_stop}
-use Rattle.vf_stop_chunk.proofs.laws.wholes_stop_alike.Goals as goal
-
-pub returns : goal.returns
-returns c = λ d p ts other rest k x e begins here h whole free. wholes_stop d p ts other rest k x e begins here h whole free

@@ -1,5 +1,0 @@
-use Rattle.vf_stop_command.proofs.Stops.{commands_refuse}
-use Rattle.vf_stop_command.proofs.laws.commands_refuse_alike.Goals as goal
-
-pub returns : goal.returns
-returns c = λ d m ts other n le e begins. commands_refuse d m ts other n le e begins

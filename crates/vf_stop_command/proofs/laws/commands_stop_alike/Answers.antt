@@ -1,5 +1,0 @@
-use Rattle.vf_stop_command.proofs.Stops.{commands_stop}
-use Rattle.vf_stop_command.proofs.laws.commands_stop_alike.Goals as goal
-
-pub returns : goal.returns
-returns c = λ d ts other rest n x e begins h none. commands_stop d ts other rest n x e begins h none

@@ -1,5 +1,0 @@
-use Rattle.vf_stop_expression.proofs.Stops.{postfixes_stop}
-use Rattle.vf_stop_expression.proofs.laws.postfixes_stop_alike.Goals as goal
-
-pub returns : goal.returns
-returns c = λ d ts other rest n x e begins h close free. postfixes_stop d ts other rest n x e begins h close free

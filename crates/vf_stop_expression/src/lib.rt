@@ -1,7 +1,0 @@
-//! Where the parser of expressions stops, no expression could go on.
-//!
-//! Each parser on lists of `vf_parse_expression` does the same on other tokens that are alike up to the token
-//! in front of which it stopped, also where the others may nest deeper.
-#![tactic(auto)]
-
-pub mod laws;

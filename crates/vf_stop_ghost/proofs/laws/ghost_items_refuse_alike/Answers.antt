@@ -1,5 +1,0 @@
-use Rattle.vf_stop_ghost.proofs.Stops.{ghost_items_refuse}
-use Rattle.vf_stop_ghost.proofs.laws.ghost_items_refuse_alike.Goals as goal
-
-pub returns : goal.returns
-returns c = λ d m ts other n le e begins. ghost_items_refuse d m ts other n le e begins

@@ -1,5 +1,0 @@
-use Rattle.vf_stop_ghost.proofs.Stops.{ghost_items_stop}
-use Rattle.vf_stop_ghost.proofs.laws.ghost_items_stop_alike.Goals as goal
-
-pub returns : goal.returns
-returns c = λ d ts other rest n x e begins h. ghost_items_stop d ts other rest n x e begins h

@@ -1,5 +1,0 @@
-use Rattle.vf_stop_pattern.proofs.Stops.{cases_stop}
-use Rattle.vf_stop_pattern.proofs.laws.cases_stop_alike.Goals as goal
-
-pub returns : goal.returns
-returns c = λ ts other rest k x e begins h free. cases_stop ts other rest k x e begins h free

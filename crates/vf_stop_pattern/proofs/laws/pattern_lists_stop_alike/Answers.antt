@@ -1,5 +1,0 @@
-use Rattle.vf_stop_pattern.proofs.Stops.{pattern_lists_stop}
-use Rattle.vf_stop_pattern.proofs.laws.pattern_lists_stop_alike.Goals as goal
-
-pub returns : goal.returns
-returns c = λ d ts other rest k xs e begins h. pattern_lists_stop d ts other rest k xs e begins h

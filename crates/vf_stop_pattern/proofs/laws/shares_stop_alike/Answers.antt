@@ -1,5 +1,0 @@
-use Rattle.vf_stop_pattern.proofs.Stops.{shares_stop}
-use Rattle.vf_stop_pattern.proofs.laws.shares_stop_alike.Goals as goal
-
-pub returns : goal.returns
-returns c = λ ts other rest k x e begins h. shares_stop ts other rest k x e begins h

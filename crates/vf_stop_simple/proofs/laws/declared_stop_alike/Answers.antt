@@ -1,5 +1,0 @@
-use Rattle.vf_stop_simple.proofs.Stops.{declared_stop}
-use Rattle.vf_stop_simple.proofs.laws.declared_stop_alike.Goals as goal
-
-pub returns : goal.returns
-returns c = λ ts other rest k t n e begins h. declared_stop ts other rest k t n e begins h

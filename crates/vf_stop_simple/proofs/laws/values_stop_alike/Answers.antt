@@ -1,5 +1,0 @@
-use Rattle.vf_stop_simple.proofs.Stops.{values_stop}
-use Rattle.vf_stop_simple.proofs.laws.values_stop_alike.Goals as goal
-
-pub returns : goal.returns
-returns c = λ d ts other rest k x e begins h free none. values_stop d ts other rest k x e begins h free none

@@ -1,4 +1,0 @@
-//! Where the parsers of assignments, calls and declarations stop, nothing of the kind could go on.
-#![tactic(auto)]
-
-pub mod laws;

@@ -1,5 +1,0 @@
-use Rattle.vf_stop_statement.proofs.Stops.{bodies_stop}
-use Rattle.vf_stop_statement.proofs.laws.plain_bodies_stop_alike.Goals as goal
-
-pub returns : goal.returns
-returns c = λ d ts other rest k x e begins h. bodies_stop d ts other rest k x e begins h

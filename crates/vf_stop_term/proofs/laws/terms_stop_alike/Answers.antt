@@ -1,5 +1,0 @@
-use Rattle.vf_stop_term.proofs.Stops.{terms_stop}
-use Rattle.vf_stop_term.proofs.laws.terms_stop_alike.Goals as goal
-
-pub returns : goal.returns
-returns c = λ d ts other rest n x e begins h free. terms_stop d ts other rest n x e begins h free

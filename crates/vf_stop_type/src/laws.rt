@@ -1,8 +1,0 @@
-//! Laws of the parsers on lists. Each function does nothing; its contract is the law.
-
-ghost use Rattle.vf_stop_type.specs.Stops.{TypesStopAlike};
-
-/// A token is refused in a type only where no type begins with the tokens up to it.
-pub fn types_stop_alike()
-    ensures { TypesStopAlike }
-{}

@@ -1,7 +1,0 @@
-//! Where the parser of types stops, no type could go on.
-//!
-//! In `proofs/` stands for all parsers on lists what it rests on: a parser does the same on other tokens
-//! that are alike up to the token in front of which it stopped.
-#![tactic(auto)]
-
-pub mod laws;

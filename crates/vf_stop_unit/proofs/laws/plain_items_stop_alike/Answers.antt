@@ -1,5 +1,0 @@
-use Rattle.vf_stop_unit.proofs.Stops.{items_stop}
-use Rattle.vf_stop_unit.proofs.laws.plain_items_stop_alike.Goals as goal
-
-pub returns : goal.returns
-returns c = λ d ts other rest k x e begins h. items_stop d ts other rest k x e begins h

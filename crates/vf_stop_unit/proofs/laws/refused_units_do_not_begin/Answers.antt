@@ -1,5 +1,0 @@
-use Rattle.vf_stop_unit.proofs.Stops.{refused_units}
-use Rattle.vf_stop_unit.proofs.laws.refused_units_do_not_begin.Goals as goal
-
-pub returns : goal.returns
-returns c = λ result end p tokens a e. refused_units result end p tokens a e

@@ -1,5 +1,0 @@
-use Rattle.vf_stop_whole.proofs.Stops.{refused_wholes}
-use Rattle.vf_stop_whole.proofs.laws.refused_wholes_do_not_begin.Goals as goal
-
-pub returns : goal.returns
-returns c = λ result end p tokens a e. refused_wholes result end p tokens a e

@@ -1,4 +1,0 @@
-//! Where the parser of whole units stops, it stops on all tokens that begin alike, and no unit could go on.
-#![tactic(auto)]
-
-pub mod laws;

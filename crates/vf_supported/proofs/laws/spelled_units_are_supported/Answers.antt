@@ -1,6 +1,0 @@
-use Rattle.std.specs.Prelude.{[]}
-use Rattle.vf_supported.proofs.UnitsClean.{unit_clean}
-use Rattle.vf_supported.proofs.laws.spelled_units_are_supported.Goals as goal
-
-pub returns : goal.returns
-returns n = λ g d u ts s. (unit_clean g u).clean ts [] s.spelled

@@ -1,8 +1,0 @@
-//! A law about what is spelled. The function does nothing; its contract is the law.
-
-ghost use Rattle.vf_supported.specs.Laws.{SpelledUnitsAreSupported};
-
-/// No token of a spelled unit is refused by name.
-pub fn spelled_units_are_supported()
-    ensures { SpelledUnitsAreSupported }
-{}

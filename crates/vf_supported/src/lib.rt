@@ -1,7 +1,0 @@
-//! What is spelled is supported: no token of a spelled unit is refused by name.
-//!
-//! Words, marks and texts of C that the language has not are refused before anything is read. Here stands the law
-//! that this refuses no unit that its grammar spells.
-#![tactic(auto)]
-
-pub mod laws;
