@@ -4,6 +4,10 @@
 //! and the facts that it was asked under; an [`Asker`] does exactly what its contract says to one. Rules
 //! are courses of questions (`specs/Course.antt`), and `holds` and `note` follow them. What a right answer
 //! is stands in `specs/Right.antt`.
+//!
+//! `holds` and `note` follow the course of one question and one fact; `can_be_fact` and `can_be_asked` tell which
+//! literals may be pushed and asked; laws: `courses_only_append`, `courses_are_determined`,
+//! `right_courses_are_determined`.
 #![tactic(auto)]
 
 mod answers;

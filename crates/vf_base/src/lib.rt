@@ -2,6 +2,9 @@
 //!
 //! Contracts see a [`Text`] as the list of its bytes and a [`Sequence`] as the list of its items.
 //! The traits [`Files`] and [`Sink`] say what may be known of files and of what is written.
+//!
+//! Each call of the files in memory gives what the map has, and fails on the calls that were named; `write_all` gives
+//! a sink all bytes or a front. On the host the contracts see counts of failures alone.
 #![tactic(auto)]
 
 mod decimal;

@@ -3,6 +3,11 @@
 //! `: T` behind the head of a function claims that it may be called through pointers to `T`. The name has to be that of a
 //! function type that is seen there, and the function has to give and take what its functions do. That the contract of
 //! the type is kept is another question, which is asked where bodies are checked.
+//!
+//! In `specs/`: when the claim of a function agrees with it: it names a function type that is seen there, whose
+//! functions give and take what the function does; that of `main` on `main` says nothing. `claim_refusal` gives the
+//! refusal of a claim at its `:` exactly where it does not agree; `claimed_type` the function type that it names.
+//! Where in the order of a unit's checks it comes is not part of it.
 #![tactic(auto)]
 
 ghost use Rattle.std.specs.Prelude.{◌≡◌};

@@ -2,6 +2,9 @@
 //!
 //! Functions with a body and lemmas with a body are checked against their contracts in the order of the text. Each has
 //! its own, or that of its prototype.
+//!
+//! In `specs/`: which item is the first that is checked against a contract, and whether it has one.
+//! `missing_contract` gives its name where neither it nor a prototype of it has a contract.
 #![tactic(auto)]
 
 ghost use Rattle.std.specs.Prelude.{◌≡◌};

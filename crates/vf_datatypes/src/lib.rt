@@ -3,6 +3,12 @@
 //! [`declare_datatype`] puts a datatype and its constructors into what is declared at a place of a unit, or refuses it
 //! at its first fault in the order of the text. A datatype may use itself, at its own type parameters in order, and
 //! datatypes that stand before it; and it has a value.
+//!
+//! In `specs/`: what is declared behind a datatype, or its first refusal in the order of the text: its name, type
+//! parameters and constructors, the sorts of their arguments, which may use the datatype itself at its own parameters
+//! in order and datatypes that stand before it, and that it has a value. `declare_datatype` leaves the scope that the
+//! definition gives, or answers its refusal, unless memory ran out. Law: `values_are_built` (a datatype has a value,
+//! every other sort being taken to have one, exactly where one of its constructors takes none of its own values).
 #![tactic(auto)]
 
 mod arguments;

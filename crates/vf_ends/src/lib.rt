@@ -1,4 +1,6 @@
 //! Whether a run is done: main has returned and all other threads have ended.
+//!
+//! `settled` tells it.
 #![tactic(auto)]
 
 mod ends;

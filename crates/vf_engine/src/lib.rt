@@ -1,4 +1,9 @@
 //! The machine of whole programs, one core step at a time.
+//!
+//! `effect_of_step`: what is found for each core step is what the machine's definition says of it, with each fault's
+//! kind and place; `evaluate`, `allocate`, `enter_at`, `leave_at` and more. Blocks lie in a vector by their numbers,
+//! those that come out of order in a map; the least free number is found by counts of groups, and not by a scan (its
+//! time is not proved).
 #![tactic(auto)]
 
 mod access;

@@ -3,6 +3,13 @@
 //!
 //! So what is left when annotations are erased is what the text without them becomes. Accepted means here: by the rules
 //! of names, types and sorts.
+//!
+//! Laws: `plain_readings_are_erased`: where names, types and sorts accept a unit and it makes functions, whatever is
+//! answered for its plain reading, which are its items without their annotations, is the same functions once
+//! annotations are erased, unless memory ran out; names and types do not refuse the plain reading. Below it
+//! `annotated_walks_are_seen` and `units_are_seen` (items without their annotations declare what C text sees),
+//! `annotated_bodies_are_erased` (a body becomes the same steps) and `units_are_erased`. That the tokens of real text
+//! are read as the items without their annotations is a law of `vf_erasure_laws::plain`.
 
 ghost use Rattle.vf_erasure_laws.specs.erased.Erasure.{AnnotatedBodiesAreErased};
 ghost use Rattle.vf_erasure_laws.specs.erased.Units.{PlainReadingsAreErased, UnitsAreErased};

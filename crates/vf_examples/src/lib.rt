@@ -3,6 +3,12 @@
 //! They stand above the definitions and the rules that they are of, and nothing stands on them. The
 //! definitions stand in `specs/`; the code here is public functions with an empty body, each of which
 //! has an example as its contract.
+//!
+//! Of meaning: `held_mutex_is_meant`, `calls_are_kept` (a call through a pointer and a thread); of lemmas:
+//! `lemmas_are_accepted`, `nesting_is_accepted` (by depth); of programs: `box_is_accepted`, `counting_is_accepted` (a
+//! loop and a call through a pointer), `everything_is_accepted` (a loop, a heap, a recursive predicate, a mutex and
+//! two threads in one), `unsafe_are_refused` (a program that comes to a fault and one that comes to a race are
+//! accepted in no environment), `examples_leak_nothing`, `leaving_is_accepted` (a program with a leak).
 #![tactic(auto)]
 
 mod instances;

@@ -3,6 +3,8 @@
 //!
 //! `check_main` comes to what the written rules (`specs/Main.antt`) come to with just the answers that
 //! its asker gave, whoever the asker is.
+//!
+//! Exact for the first form, by the course `checks` of the core.
 #![tactic(auto)]
 
 mod body;

@@ -4,6 +4,14 @@
 //! level those alone count there that were declared up to the fixpoint: a later function of C may have the name of a
 //! case, and a later name may be `is_T`. So it is accepted there too. Each law is the contract of a public function with
 //! an empty body.
+//!
+//! In `specs/`: when what is declared in one scope is so in another, the names in bodies of fixpoints, and when files
+//! see through each other. Laws: `accepted_units_are_defined` (of an accepted unit whose files see through each other
+//! no body of a fixpoint is refused by `vf_defining`), `sorts_are_preserved` and `equations_are_preserved`
+//! (expressions keep their sorts, and bodies stay accepted, where what is declared of the names in them is so),
+//! `expanded_files_see_through` (the files of each unit that was expanded do see through each other); example:
+//! `later_names_do_not_count` (an accepted unit whose fixpoint has its definition, though a later name `is_T` would
+//! refuse its body).
 
 ghost use Rattle.vf_fixpoint_laws.specs.definable.Example.{LaterNamesDoNotCount};
 ghost use Rattle.vf_fixpoint_laws.specs.definable.Expanded.{ExpandedFilesSeeThrough};

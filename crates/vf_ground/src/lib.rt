@@ -3,6 +3,9 @@
 //!
 //! Classes and bounds hold the facts and what the terms give of themselves; they exchange equalities and bounds until
 //! each holds what the other one does. Who does so stands above.
+//!
+//! `lack_at` tells what classes and bounds lack of each other at two terms, and `is_clash` and `contradicts` tell a
+//! conflict; each is exact.
 #![tactic(auto)]
 
 mod exchange;

@@ -5,6 +5,17 @@
 //! shows the same in two units, and `specs/c_names/Types.antt` that types which are written in it are then the same;
 //! `specs/c_names/Items.antt`, `specs/c_names/Units.antt` and `specs/c_names/Clashes.antt` go on to items and whole units, and
 //! `specs/c_names/Example.antt` has two units. Each law is the contract of a public function with an empty body.
+//!
+//! In `specs/`: of which files a header consists and what of a unit stands in them, when a type of one unit is a type
+//! of another, when a header shows the same in two units, and where an item stands. Laws: `headers_see_their_own` and
+//! `lookups_are_in_the_part` (what is looked up from a header stands in its files, and nothing else has a part in
+//! it); `parts_show_the_same`; `written_types_are_one` (a type that is written in a header is one type in two units
+//! in which the header shows the same, or is refused in both); `items_elsewhere_are_unseen` (an item of C that stands
+//! elsewhere changes nothing that a header sees); `items_inside_show_the_same`, `headers_mean_the_same` and
+//! `units_show_the_same` (a header in which the same items of C stand shows the same in two units that are accepted);
+//! `items_inside_clash_alone` (an item of C of a header that one unit accepts is refused in another by the rule of
+//! names alone); `one_header_of_two_units` is an example in which numbers differ. What annotations declare is all the
+//! same here.
 
 ghost use Rattle.vf_header_laws.specs.c_names.Items.{HeadersMeanTheSame, ItemsElsewhereAreUnseen, ItemsInsideShowTheSame};
 ghost use Rattle.vf_header_laws.specs.c_names.Lookups.{HeadersSeeTheirOwn, LookupsAreInThePart};

@@ -1,4 +1,9 @@
 //! What the files of a unit that was expanded consist of: laws, each the contract of a public function with an empty body.
+//!
+//! Laws: `includes_are_closed`: each file of a unit that was expanded consists of files of the unit that consist of
+//! its files alone; `headers_are_closed`: those of a header are headers, so none consists of the unit's own file;
+//! `files_have_their_own_numbers`: no number stands twice among the files of a unit, where the files of two paths
+//! have two numbers.
 
 ghost use Rattle.vf_header_laws.specs.included.Closed.{FilesHaveTheirOwnNumbers, HeadersAreClosed, IncludesAreClosed};
 

@@ -3,6 +3,11 @@
 //! A text is cut into its elements: tokens, blank space, comments, and annotations, which have elements
 //! of their own. [`lex`] gives the tokens of the one way to cut it, and where there is none the first byte
 //! at which nothing can start or go on.
+//!
+//! No position of a reader is in the definition. Which token stands in front of a text it says by a function, of
+//! which `longest_token` shows that it is written as its kind is, and that no longer front is written as a token of
+//! any kind is. Laws: `one_reading`, `longest_token`, `longest_punctuator`, `tokens_are_slices`,
+//! `tokens_have_their_places`.
 #![tactic(auto)]
 
 mod class;

@@ -3,6 +3,13 @@
 //! [`lowered`] adds to a [`Draft`] the nodes that an expression does and the locals that it takes, and answers what is
 //! left of it: a value, a test, or an access whose result is still to be put somewhere. `specs/` says what expressions
 //! and statements become.
+//!
+//! In `specs/`: what C expressions, assignments, calls, statements and bodies become, as functions on trees: from the
+//! number of the next local on, the nodes, the types of the locals that are taken, and what is left: a value, a test,
+//! or an access that is still to be put somewhere. `lowered` adds to a draft the nodes and locals that the definition
+//! gives an expression and answers what is left of it, `valued` and `tested` the same as a value and as a test,
+//! `passed` as a value that passes for one of a type; whatever the expression is, typed or not; want of memory alone
+//! is free. Law: `lowered_in_examples` (what a sum, comparisons, conversions, a changed local and a loop become).
 #![tactic(auto)]
 
 mod call;

@@ -3,6 +3,16 @@
 //!
 //! The definitions stand in `specs/`, above those of the machine; the code here is public functions
 //! with an empty body, each of which has a law as its contract.
+//!
+//! In `specs/`: dyadic fractions, values of ghost expressions, fixpoints, sorts, assertions, parts of memory and when
+//! one fits, satisfaction at a depth and a scale, linked environments, share-outs, what a run keeps. Laws of
+//! fractions (`form_is_one`, `product_distributes`, `halves_make_the_whole`, `order_is_total` and more), of values
+//! (`tells_values`, `tells_claims`, `values_agree`, `divides_by_nought`), of fixpoints (`fixpoints_meet_equations`,
+//! `listed_fixpoints_meet_equations`), of parts (`sums_regroup`, `fitting_is_consistent`, `whole_is_alone` and more),
+//! of what fits before and after each change of memory (`fields_are_there`, `fields_are_written`, `blocks_are_added`,
+//! `blocks_are_freed`, `mutexes_are_acquired`, `mutexes_are_released` and more), of satisfaction (`depth_grows`,
+//! `scales_split`, `chunks_join`, `rows_join`, `names_agree`, `declarations_grow` and more), of share-outs
+//! (`sums_open`, `sums_close`, `members_are_apart`, `share_outs_exclude_races`).
 #![tactic(auto)]
 
 mod fit_laws;

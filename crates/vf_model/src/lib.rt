@@ -2,6 +2,10 @@
 //!
 //! The definitions stand in `specs/`; the code here is the words that the machine's calls share with
 //! them, and public functions with an empty body, each of which has a law as its contract.
+//!
+//! In `specs/`: values, blocks, threads, steps, grants, faults, races and runs, of the whole language. Laws:
+//! `ends_for_good`, `stays_ended`, `tells_steppers`, `idles_elsewhere`, `finds_steppers`, `faults_by_any_grant`,
+//! `grants_wanted`, `grants_least_free`, `tells_identities`, `tells_signatures`.
 #![tactic(auto)]
 
 mod laws;

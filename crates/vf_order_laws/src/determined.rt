@@ -1,6 +1,11 @@
 //! The rules of names, of types and sorts, and of the phases behind them give one answer at most, so that what is
 //! answered by them, and what is refused, is the only answer there is. Each law is the contract of a public function with
 //! an empty body.
+//!
+//! Laws: `sorts_are_determined`, `assertions_are_determined`, `annotations_are_determined`, `units_are_determined`,
+//! `phases_are_determined`: what the rules of sorts, of assertions, of each annotation, of whole units and of the
+//! phases give is one answer at most; so what the calls of these crates answer, unless memory runs out, is the only
+//! answer there is.
 
 ghost use Rattle.vf_order_laws.specs.determined.Determined.{AnnotationsAreDetermined, AssertionsAreDetermined, PhasesAreDetermined, SortsAreDetermined, UnitsAreDetermined};
 

@@ -2,6 +2,14 @@
 //! and their parts in the order of the text, inside an expression the parts before the whole. The rules of names, types
 //! and sorts, which are told one by one, give just what the walk gives. Each law is the contract of a public function
 //! with an empty body.
+//!
+//! In `specs/`: the order of refusals, as a walk of the tree that gives what is declared or the first refusal: of
+//! ghost expressions, patterns, shares and chunks, assertions, contracts, ghost commands, each form of ghost items,
+//! statements and items of C, whole units, and the phases. Laws: `refusals_are_first` (a unit is refused exactly as
+//! the walk first refuses it, and passes its phases exactly where the walk refuses nothing), `sorts_are_walked`,
+//! `passes_are_walked`, `assertions_are_walked`, `annotations_are_walked`, `statements_are_walked`,
+//! `units_are_walked`, `phases_are_walked` (the rules of each give what the walk gives, and nothing else); examples:
+//! `first_in_examples`.
 
 ghost use Rattle.vf_order_laws.specs.walk.Agreeing.{AssertionsAreWalked, FormsAreWalked, PassesAreWalked, PhasesAreWalked, RefusalsComeFirst, SortsAreWalked, StatementsAreWalked, UnitsAreWalked};
 ghost use Rattle.vf_order_laws.specs.walk.Examples.{FirstInExpressions};

@@ -5,6 +5,12 @@
 //! files. The code has all that one file needs: lines, directives, groups, macros and their
 //! replacement, what an include means, and what a header leaves to its includer. The walk over the
 //! files stands above it.
+//!
+//! In `specs/`: what a unit's text is, over a map of files: includes, macros, guards, headers; and all that one file
+//! needs; which names stand in which file. Each call gives exactly what the definition says, with rule and place
+//! (`follow_line`, `with_header`, `join_header`, `put_expanded`, `NameTable::stands` and more). Law:
+//! `replacements_are_whole` (no replacement of macros is cut short by the bound on how deep they stand within one
+//! another).
 #![tactic(auto)]
 
 mod fault;

@@ -4,6 +4,9 @@
 //! and from earlier steps; the last names a conflict. The check goes over it once and searches for
 //! nothing. A fact that is a difference is derived as one, and is taken as a bound either way by the
 //! steps that take an equality of integer terms as bounds.
+//!
+//! `recheck` says yes exactly where each step but the last derives something from earlier ones, within numbers of
+//! 2^126, and the last names a conflict; the closure of the facts then has one.
 #![tactic(auto)]
 
 mod checking;

@@ -2,6 +2,13 @@
 //!
 //! The definitions stand in `specs/`; the code here is public functions with an empty body, each of
 //! which has a law as its contract.
+//!
+//! In `specs/`: when a thread's frames with a part of memory and with what their calls owe are safe for a number of
+//! steps beside the parts of all other threads and mutexes, and when a program is accepted. Laws:
+//! `accepted_calls_are_safe`, `accepted_threads_are_safe`, `accepted_programs_are_safe` (with several threads and
+//! mutexes: no fault, no race, and what the program owes is kept on every list of events); the five lemmas of arrays
+//! as laws of parts (`rows_are_split`, `rows_are_joined` and more); what is leaked and what is left:
+//! `nothing_is_leaked`, `nothing_is_lost`, `no_block_is_left`.
 #![tactic(auto)]
 
 mod array_laws;

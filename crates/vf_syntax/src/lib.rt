@@ -2,6 +2,8 @@
 //!
 //! Each node has the place of its first token, and of each other token that a refusal may name.
 //! Contracts see trees as pure data without pointers, places included.
+//!
+//! Each tree means its pure data; keywords and operators are spelled, and told by their spelling, as the tables say.
 #![tactic(auto)]
 
 pub mod assertion;

@@ -2,6 +2,8 @@
 //!
 //! A term is a number; its [`Node`] has a head and the numbers of its parts. The table tells heads
 //! apart only as far as the closure of a question does.
+//!
+//! Each call tells what the definition says of a node.
 #![tactic(auto)]
 
 mod node;
