@@ -1,16 +1,19 @@
 //! Assertions.
 
-ghost use Rattle.std.specs.Prelude.{◌≡◌};
+ghost use Rattle.std.specs.Prelude.{◌≡◌, ◌++◌, ◌∷◌, [], IfOk};
 ghost use Rattle.vf_lexer.specs.declared.punctuator.Punctuator.TheVariants.{SeparatingAnd};
 ghost use Rattle.vf_syntax.specs.declared.keyword.Keyword.TheVariants.{Case};
 ghost use Rattle.vf_syntax.specs.declared.side.Side.TheVariants.{Ghost};
+ghost use Rattle.vf_syntax.specs.AssertionTree.{assertion_case, part_list};
 ghost use Rattle.vf_syntax.specs.Walks.{head_has, is_mark, is_word};
 ghost use Rattle.vf_cursor.specs.Parsing.{Gives, many};
 ghost use Rattle.vf_parse_term.specs.Pieces.{too_deep_at};
+ghost use Rattle.vf_parse_assertion.specs.Contents.{parts_of};
 ghost use Rattle.vf_parse_assertion.specs.Parsers.{begins_part, switch_head_at, case_head_at, return_head_at, case_step, cases_at, switch_at, opening_at, second_branch_at, conditional_at, further_at, piece_at, part_step, more_parts_at, several_at, content_at, assertion_at};
 
 use crate::contents::{Content, chosen, enclosed};
-use vf_base::Place;
+use std::alloc::Global;
+use vf_base::{Memory, Place};
 use vf_cursor::cursor::Cursor;
 use vf_cursor::fault::Stop;
 use vf_lexer::Punctuator;
@@ -55,9 +58,19 @@ pub fn switch_head(cursor: &mut Cursor, depth: u32) -> Result<GhostExpr, Stop>
     cursor.word(Side::Ghost, Keyword::Switch)?;
     cursor.mark(Side::Ghost, Punctuator::OpenParenthesis)?;
     let looked_at = term(cursor, depth)?;
-    cursor.mark(Side::Ghost, Punctuator::CloseParenthesis)?;
-    cursor.mark(Side::Ghost, Punctuator::OpenBrace)?;
-    Ok(looked_at)
+    match cursor.mark(Side::Ghost, Punctuator::CloseParenthesis) {
+        Ok(_) => match cursor.mark(Side::Ghost, Punctuator::OpenBrace) {
+            Ok(_) => Ok(looked_at),
+            Err(stop) => {
+                drop(looked_at);
+                Err(stop)
+            }
+        },
+        Err(stop) => {
+            drop(looked_at);
+            Err(stop)
+        }
+    }
 }
 
 /// The head of a case, up to its `:`: its place, and what it is for.
@@ -67,8 +80,13 @@ pub fn case_head(cursor: &mut Cursor) -> Result<(Place, CasePattern), Stop>
 {
     let place = cursor.word(Side::Ghost, Keyword::Case)?;
     let pattern = case_pattern(cursor)?;
-    cursor.mark(Side::Ghost, Punctuator::Colon)?;
-    Ok((place, pattern))
+    match cursor.mark(Side::Ghost, Punctuator::Colon) {
+        Ok(_) => Ok((place, pattern)),
+        Err(stop) => {
+            drop(pattern);
+            Err(stop)
+        }
+    }
 }
 
 /// The head of a case, and the `return` behind it.
@@ -76,9 +94,41 @@ pub fn case_head(cursor: &mut Cursor) -> Result<(Place, CasePattern), Stop>
 pub fn return_head(cursor: &mut Cursor) -> Result<(Place, CasePattern), Stop>
     ensures { Gives result cursor.new.left.now (return_head_at cursor.old.left.now) }
 {
-    let head = case_head(cursor)?;
-    cursor.word(Side::Ghost, Keyword::Return)?;
-    Ok(head)
+    let (place, pattern) = case_head(cursor)?;
+    match cursor.word(Side::Ghost, Keyword::Return) {
+        Ok(_) => Ok((place, pattern)),
+        Err(stop) => {
+            drop(pattern);
+            Err(stop)
+        }
+    }
+}
+
+/// Some cases and one more behind them.
+fn with_case(
+    alloc: Global,
+    before: AssertionCaseList,
+    place: Place,
+    pattern: CasePattern,
+    inside: Content,
+) -> Result<AssertionCaseList, Memory>
+    ensures { IfOk result (λ xs. xs ≡ before ++ assertion_case place pattern (part_list (parts_of inside)) ∷ []) }
+{
+    let mut cases = before;
+    match inside.into_assertion(alloc) {
+        Ok(body) => {
+            cases.push(AssertionCase {
+                place,
+                pattern,
+                body,
+            })?;
+            Ok(cases)
+        }
+        Err(failed) => {
+            drop(pattern);
+            Err(failed)
+        }
+    }
 }
 
 /// An assertion in which fewer than `depth` assertions, expressions and operators in front of their operand stand
@@ -163,8 +213,13 @@ fn opening(cursor: &mut Cursor, depth: u32, place: Place) -> Result<Begun, Stop>
     if cursor.sees_mark(Side::Ghost, Punctuator::OpenParenthesis) {
         cursor.mark(Side::Ghost, Punctuator::OpenParenthesis)?;
         let inside = content(cursor, depth)?;
-        cursor.mark(Side::Ghost, Punctuator::CloseParenthesis)?;
-        return Ok(enclosed(cursor.alloc, place, inside)?);
+        return match cursor.mark(Side::Ghost, Punctuator::CloseParenthesis) {
+            Ok(_) => Ok(enclosed(cursor.alloc, place, inside)?),
+            Err(stop) => {
+                drop(inside);
+                Err(stop)
+            }
+        };
     }
     if cursor.sees_word(Side::Ghost, Keyword::Switch) {
         return switch(cursor, depth, place);
@@ -196,9 +251,19 @@ fn conditional(
 ) -> Result<Piece, Stop>
     ensures { Gives result cursor.new.left.now (conditional_at (content_at depth) place test cursor.old.left.now) }
 {
-    cursor.mark(Side::Ghost, Punctuator::Question)?;
-    let first = content(cursor, depth)?;
-    second_branch(cursor, depth, place, test, first)
+    match cursor.mark(Side::Ghost, Punctuator::Question) {
+        Ok(_) => match content(cursor, depth) {
+            Ok(first) => second_branch(cursor, depth, place, test, first),
+            Err(stop) => {
+                drop(test);
+                Err(stop)
+            }
+        },
+        Err(stop) => {
+            drop(test);
+            Err(stop)
+        }
+    }
 }
 
 /// A conditional behind its first branch. All parts to the right belong to the second.
@@ -213,12 +278,29 @@ fn second_branch(
 ) -> Result<Piece, Stop>
     ensures { Gives result cursor.new.left.now (second_branch_at (content_at depth) place test first cursor.old.left.now) }
 {
-    cursor.mark(Side::Ghost, Punctuator::Colon)?;
-    let second = content(cursor, depth)?;
-    if cursor.sees_mark(Side::Ghost, Punctuator::SeparatingAnd) {
-        return Err(cursor.syntax());
+    match cursor.mark(Side::Ghost, Punctuator::Colon) {
+        Ok(_) => match content(cursor, depth) {
+            Ok(second) => {
+                if cursor.sees_mark(Side::Ghost, Punctuator::SeparatingAnd) {
+                    drop(test);
+                    drop(first);
+                    drop(second);
+                    return Err(cursor.syntax());
+                }
+                Ok(chosen(cursor.alloc, place, test, first, second)?)
+            }
+            Err(stop) => {
+                drop(test);
+                drop(first);
+                Err(stop)
+            }
+        },
+        Err(stop) => {
+            drop(test);
+            drop(first);
+            Err(stop)
+        }
     }
-    Ok(chosen(cursor.alloc, place, test, first, second)?)
 }
 
 /// A part that is a `switch`.
@@ -228,10 +310,22 @@ fn switch(cursor: &mut Cursor, depth: u32, place: Place) -> Result<Begun, Stop>
     ensures { Gives result cursor.new.left.now (switch_at depth (content_at depth) place cursor.old.left.now) }
 {
     let looked_at = switch_head(cursor, depth)?;
-    let cases = cases(cursor, depth)?;
-    cursor.mark(Side::Ghost, Punctuator::CloseBrace)?;
-    let node = PartNode::Switch(looked_at, cases);
-    Ok(Begun::Whole(Piece::Other(Part { place, node })))
+    match cases(cursor, depth) {
+        Ok(cases) => match cursor.mark(Side::Ghost, Punctuator::CloseBrace) {
+            Ok(_) => {
+                let node = PartNode::Switch(looked_at, cases);
+                Ok(Begun::Whole(Piece::Other(Part { place, node })))
+            }
+            Err(stop) => {
+                drop(looked_at);
+                Err(stop)
+            }
+        },
+        Err(stop) => {
+            drop(looked_at);
+            Err(stop)
+        }
+    }
 }
 
 #[cycle(content)]
@@ -260,17 +354,21 @@ fn one_more_case(
 ) -> Result<AssertionCaseList, Stop>
     ensures { Gives result cursor.new.left.now (case_step (content_at depth) before cursor.old.left.now) }
 {
-    let mut cases = before;
     let (place, pattern) = return_head(cursor)?;
-    let inside = content(cursor, depth)?;
-    cursor.mark(Side::Ghost, Punctuator::Semicolon)?;
-    let body = inside.into_assertion(cursor.alloc)?;
-    cases.push(AssertionCase {
-        place,
-        pattern,
-        body,
-    })?;
-    Ok(cases)
+    match content(cursor, depth) {
+        Ok(inside) => match cursor.mark(Side::Ghost, Punctuator::Semicolon) {
+            Ok(_) => Ok(with_case(cursor.alloc, before, place, pattern, inside)?),
+            Err(stop) => {
+                drop(pattern);
+                drop(inside);
+                Err(stop)
+            }
+        },
+        Err(stop) => {
+            drop(pattern);
+            Err(stop)
+        }
+    }
 }
 
 /// An assertion in which fewer than `depth` assertions, expressions and operators in front of their operand stand

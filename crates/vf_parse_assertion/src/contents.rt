@@ -44,6 +44,35 @@ fn parenthesized(alloc: Global, place: Place, value: Value) -> Result<GhostExpr,
     Ok(GhostExpr { place, node })
 }
 
+fn boxed_term(alloc: Global, value: Value) -> Result<Box<GhostExpr>, Memory>
+    ensures { IfOk result (λ x. x.value ≡ term_of value) }
+{
+    let term = value.into_term()?;
+    Ok(Box::new(alloc, term)?)
+}
+
+/// A conditional whose first branch has its box.
+fn conditional_of(
+    alloc: Global,
+    place: Place,
+    test: GhostExpr,
+    first: Box<GhostExpr>,
+    second: Value,
+) -> Result<GhostExpr, Memory>
+    ensures { IfOk result (λ x. x ≡ exprs.conditional place test first.value (term_of second)) }
+{
+    match boxed_term(alloc, second) {
+        Ok(second) => {
+            let node = GhostExprNode::Conditional(Box::new(alloc, test)?, first, second);
+            Ok(GhostExpr { place, node })
+        }
+        Err(failed) => {
+            drop(test);
+            Err(failed)
+        }
+    }
+}
+
 fn conditional(
     alloc: Global,
     place: Place,
@@ -53,10 +82,14 @@ fn conditional(
 ) -> Result<GhostExpr, Memory>
     ensures { IfOk result (λ x. x ≡ exprs.conditional place test (term_of first) (term_of second)) }
 {
-    let first = Box::new(alloc, first.into_term()?)?;
-    let second = Box::new(alloc, second.into_term()?)?;
-    let node = GhostExprNode::Conditional(Box::new(alloc, test)?, first, second);
-    Ok(GhostExpr { place, node })
+    match boxed_term(alloc, first) {
+        Ok(first) => conditional_of(alloc, place, test, first, second),
+        Err(failed) => {
+            drop(test);
+            drop(second);
+            Err(failed)
+        }
+    }
 }
 
 /// An assertion of one part between parentheses, of which the first stands at a place.
@@ -99,10 +132,23 @@ fn tree_of(
 ) -> Result<Part, Memory>
     ensures { IfOk result (λ x. x ≡ tree_of place test first second) }
 {
-    let first = first.into_assertion(alloc)?;
-    let second = second.into_assertion(alloc)?;
-    let node = PartNode::Conditional(test, first, second);
-    Ok(Part { place, node })
+    match first.into_assertion(alloc) {
+        Ok(first) => match second.into_assertion(alloc) {
+            Ok(second) => {
+                let node = PartNode::Conditional(test, first, second);
+                Ok(Part { place, node })
+            }
+            Err(failed) => {
+                drop(test);
+                Err(failed)
+            }
+        },
+        Err(failed) => {
+            drop(test);
+            drop(second);
+            Err(failed)
+        }
+    }
 }
 
 /// A conditional whose first branch an expression spells too.

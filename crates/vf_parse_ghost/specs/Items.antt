@@ -8,6 +8,7 @@ use Rattle.vf_syntax.specs.declared.item.GhostForm.{GhostForm}
 use Rattle.vf_syntax.specs.declared.item.GhostForm.TheVariants as forms
 use Rattle.vf_syntax.specs.declared.item.GhostParameter.{GhostParameter}
 use Rattle.vf_syntax.specs.declared.written.Name.{Name}
+use Rattle.vf_syntax.specs.SortTree.{SortTree}
 use Rattle.vf_syntax.specs.AssertionTree.{PartTree}
 use Rattle.vf_syntax.specs.Walks.{head_has, is_mark, is_word}
 use Rattle.vf_cursor.specs.Parsing.{Parser, ok, ◌>>=◌, here_at, mark_at, word_at, name_at}
@@ -28,6 +29,11 @@ definition_at d ts = mark_at Ghost punctuators.Becomes ts >>= λ m. assertion_at
 unfoldable pub inductive_at : ℕ → Parser GhostForm
 inductive_at d ts = word_at Ghost keywords.Inductive ts >>= λ w. name_at Ghost w.1 >>= λ n. type_parameters_at n.1 >>= λ xs. mark_at Ghost punctuators.Becomes xs.1 >>= λ m. bar_at m.1 >>= λ b. constructors_at d b.1
     >>= λ cs. mark_at Ghost punctuators.Semicolon cs.1 >>= λ z. ok (forms.Inductive n.0 xs.0 b.0 cs.0) z.1
+
+-- a fixpoint behind its parameters: "{" body "}"
+unfoldable pub fixpoint_by : ℕ → SortTree → Heading → Parser GhostForm
+fixpoint_by d s h ts = mark_at Ghost punctuators.OpenBrace ts >>= λ o. fixpoint_body_at d o.1
+    >>= λ b. mark_at Ghost punctuators.CloseBrace b.1 >>= λ z. ok (forms.Fixpoint s h.name h.type_parameters h.parameters b.0) z.1
 
 -- "fixpoint" sort NAME [type parameters] parameters "{" body "}"
 unfoldable pub fixpoint_at : ℕ → Parser GhostForm

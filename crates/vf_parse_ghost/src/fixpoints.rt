@@ -26,14 +26,27 @@ fn one_more_case(
 {
     let mut cases = before;
     let (place, pattern) = return_head(cursor)?;
-    let value = term(cursor, depth)?;
-    cursor.mark(Side::Ghost, Punctuator::Semicolon)?;
-    cases.push(FixpointCase {
-        place,
-        pattern,
-        value,
-    })?;
-    Ok(cases)
+    match term(cursor, depth) {
+        Ok(value) => match cursor.mark(Side::Ghost, Punctuator::Semicolon) {
+            Ok(_) => {
+                cases.push(FixpointCase {
+                    place,
+                    pattern,
+                    value,
+                })?;
+                Ok(cases)
+            }
+            Err(stop) => {
+                drop(pattern);
+                drop(value);
+                Err(stop)
+            }
+        },
+        Err(stop) => {
+            drop(pattern);
+            Err(stop)
+        }
+    }
 }
 
 #[tactic(auto, using(vf_cursor::proofs::Loop::many_stops, vf_cursor::proofs::Loop::many_goes, vf_cursor::proofs::Loop::many_fails))]
@@ -58,8 +71,13 @@ fn value(cursor: &mut Cursor, depth: u32) -> Result<FixpointBody, Stop>
 {
     cursor.word(Side::Ghost, Keyword::Return)?;
     let value = term(cursor, depth)?;
-    cursor.mark(Side::Ghost, Punctuator::Semicolon)?;
-    Ok(FixpointBody::Value(value))
+    match cursor.mark(Side::Ghost, Punctuator::Semicolon) {
+        Ok(_) => Ok(FixpointBody::Value(value)),
+        Err(stop) => {
+            drop(value);
+            Err(stop)
+        }
+    }
 }
 
 /// The head of a `switch`, up to its `{`: the name that it looks at.

@@ -2,7 +2,7 @@
 
 ghost use Rattle.std.specs.Prelude.{◌≡◌};
 ghost use Rattle.vf_cursor.specs.Parsing.{Gives};
-ghost use Rattle.vf_parse_ghost.specs.Items.{definition_at, inductive_at, fixpoint_at, predicate_by, predicate_at, index_at, family_at, function_at, instance_at, predicate_constructor_at, lemma_by, lemma_at, predicates_at, form_at, item_at};
+ghost use Rattle.vf_parse_ghost.specs.Items.{definition_at, inductive_at, fixpoint_by, fixpoint_at, predicate_by, predicate_at, index_at, family_at, function_at, instance_at, predicate_constructor_at, lemma_by, lemma_at, predicates_at, form_at, item_at};
 
 use crate::constructors::{bar, constructors};
 use crate::contracts::{any_contract, contract};
@@ -19,6 +19,7 @@ use vf_syntax::assertion::Assertion;
 use vf_syntax::item::{GhostForm, GhostItem, GhostParameter};
 use vf_syntax::keyword::Keyword;
 use vf_syntax::side::Side;
+use vf_syntax::sort::Sort;
 use vf_syntax::written::Name;
 
 /// `= A;`
@@ -46,17 +47,61 @@ fn inductive(cursor: &mut Cursor, depth: u32) -> Result<GhostForm, Stop>
     Ok(GhostForm::Inductive(name, type_parameters, has_bar, constructors))
 }
 
-#[tactic(auto, unfolding(crate::specs::Items::fixpoint_at))]
+/// A fixpoint behind its parameters.
+#[tactic(auto, unfolding(crate::specs::Items::fixpoint_by))]
+fn fixpoint_by(
+    cursor: &mut Cursor,
+    depth: u32,
+    sort: Sort,
+    head: Heading,
+) -> Result<GhostForm, Stop>
+    ensures { Gives result cursor.new.left.now (fixpoint_by depth sort head cursor.old.left.now) }
+{
+    match cursor.mark(Side::Ghost, Punctuator::OpenBrace) {
+        Ok(_) => match fixpoint_body(cursor, depth) {
+            Ok(body) => match cursor.mark(Side::Ghost, Punctuator::CloseBrace) {
+                Ok(_) => {
+                    let Heading {
+                        name,
+                        type_parameters,
+                        parameters,
+                    } = head;
+                    Ok(GhostForm::Fixpoint(sort, name, type_parameters, parameters, body))
+                }
+                Err(stop) => {
+                    drop(sort);
+                    drop(head);
+                    drop(body);
+                    Err(stop)
+                }
+            },
+            Err(stop) => {
+                drop(sort);
+                drop(head);
+                Err(stop)
+            }
+        },
+        Err(stop) => {
+            drop(sort);
+            drop(head);
+            Err(stop)
+        }
+    }
+}
+
+#[tactic(auto, unfolding(crate::specs::Items::fixpoint_at, crate::specs::Items::fixpoint_by))]
 fn fixpoint(cursor: &mut Cursor, depth: u32) -> Result<GhostForm, Stop>
     ensures { Gives result cursor.new.left.now (fixpoint_at depth cursor.old.left.now) }
 {
     cursor.word(Side::Ghost, Keyword::Fixpoint)?;
     let sort = sort(cursor, depth)?;
-    let head = head(cursor, depth)?;
-    cursor.mark(Side::Ghost, Punctuator::OpenBrace)?;
-    let body = fixpoint_body(cursor, depth)?;
-    cursor.mark(Side::Ghost, Punctuator::CloseBrace)?;
-    Ok(GhostForm::Fixpoint(sort, head.name, head.type_parameters, head.parameters, body))
+    match head(cursor, depth) {
+        Ok(head) => fixpoint_by(cursor, depth, sort, head),
+        Err(stop) => {
+            drop(sort);
+            Err(stop)
+        }
+    }
 }
 
 /// A predicate behind its parameters.

@@ -69,11 +69,22 @@ fn assigned(
     ensures { Gives result cursor.new.left.now (assigned_at (expr_at depth) left operator cursor.old.left.now) }
 {
     if !is_left_side(&left) {
+        drop(left);
         return Err(cursor.syntax());
     }
-    let place = cursor.mark(Side::Real, operator.mark())?;
-    let right = expr(cursor, depth)?;
-    Ok(Simple::Assignment(left, operator, place, right))
+    match cursor.mark(Side::Real, operator.mark()) {
+        Ok(place) => match expr(cursor, depth) {
+            Ok(right) => Ok(Simple::Assignment(left, operator, place, right)),
+            Err(stop) => {
+                drop(left);
+                Err(stop)
+            }
+        },
+        Err(stop) => {
+            drop(left);
+            Err(stop)
+        }
+    }
 }
 
 /// `++` or `--` behind what was read.
@@ -82,10 +93,16 @@ fn step_after(cursor: &mut Cursor, left: Expr, operator: StepOperator) -> Result
     ensures { Gives result cursor.new.left.now (step_after_at left operator cursor.old.left.now) }
 {
     if !is_left_side(&left) {
+        drop(left);
         return Err(cursor.syntax());
     }
-    let place = cursor.mark(Side::Real, operator.mark())?;
-    Ok(Simple::StepAfter(left, operator, place))
+    match cursor.mark(Side::Real, operator.mark()) {
+        Ok(place) => Ok(Simple::StepAfter(left, operator, place)),
+        Err(stop) => {
+            drop(left);
+            Err(stop)
+        }
+    }
 }
 
 /// `++` or `--`, and what it changes.
@@ -96,6 +113,7 @@ fn step_before(cursor: &mut Cursor, depth: u32, operator: StepOperator) -> Resul
     let place = cursor.mark(Side::Real, operator.mark())?;
     let changed = postfix(cursor, depth)?;
     if !is_left_side(&changed) {
+        drop(changed);
         return Err(cursor.syntax());
     }
     Ok(Simple::StepBefore(place, operator, changed))
@@ -109,6 +127,7 @@ fn called(cursor: &mut Cursor, read: Expr) -> Result<Simple, Stop>
     if is_call(&read) {
         return Ok(Simple::Call(read));
     }
+    drop(read);
     Err(cursor.syntax())
 }
 
@@ -146,8 +165,14 @@ fn first_declaration(cursor: &mut Cursor, depth: u32) -> Result<First, Stop>
     ensures { Gives result cursor.new.left.now (first_declaration_at (expr_at depth) cursor.old.left.now) }
 {
     let (written, name) = declared(cursor)?;
-    let given = value(cursor, depth)?;
-    Ok(First::Declaration(written, name, given))
+    match value(cursor, depth) {
+        Ok(given) => Ok(First::Declaration(written, name, given)),
+        Err(stop) => {
+            drop(written);
+            drop(name);
+            Err(stop)
+        }
+    }
 }
 
 /// What stands first in a `for`.
