@@ -8,6 +8,7 @@ use vf_cursor::cursor::Cursor;
 use vf_declared::ctype::CType;
 use vf_declared::scope::Scope;
 use vf_declared::stack::Stack;
+use vf_lexer::Token;
 use vf_lower::Draft;
 use vf_parse_statement::annotations::NoGhost;
 use vf_parse_statement::statements::statements;
@@ -21,15 +22,11 @@ const LAST: Place = Place {
     column: 99,
 };
 
-/// The statements of a short text.
-fn read(alloc: Global, text: &str) -> Result<StmtList, Memory> {
-    let tokens = tokens(alloc, text, false)?;
-    let mut cursor = Cursor {
-        alloc,
-        left: tokens.as_slice(),
-    };
+/// The statements of some tokens.
+fn statements_of(alloc: Global, read: &[Token]) -> Result<StmtList, Memory> {
+    let mut cursor = Cursor { alloc, left: read };
     match statements(&mut cursor, &NoGhost, Grammar::Plain, 20) {
-        Ok(read) => Ok(read),
+        Ok(items) => Ok(items),
         Err(_) => Err(Memory),
     }
 }
@@ -48,14 +45,26 @@ fn counts(alloc: Global, items: &StmtList) -> Result<(usize, usize), Memory> {
         nodes: Vec::new(alloc),
     };
     let given = CType::Integer(IntType::Int);
-    lower_body(&mut around, &mut draft, given, false, items, LAST)?;
-    Ok((draft.nodes.len(), draft.locals.len()))
+    match lower_body(&mut around, &mut draft, given, false, items, LAST) {
+        Ok(()) => Ok((draft.nodes.len(), draft.locals.len())),
+        Err(memory) => Err(memory),
+    }
+}
+
+/// How many nodes and locals some tokens become.
+fn counts_of(alloc: Global, read: &[Token]) -> Result<(usize, usize), Memory> {
+    match statements_of(alloc, read) {
+        Ok(items) => counts(alloc, &items),
+        Err(memory) => Err(memory),
+    }
 }
 
 /// How many nodes and locals a text becomes.
 fn found(alloc: Global, text: &str) -> Result<(usize, usize), Memory> {
-    let items = read(alloc, text)?;
-    counts(alloc, &items)
+    match tokens(alloc, text, false) {
+        Ok(read) => counts_of(alloc, read.as_slice()),
+        Err(memory) => Err(memory),
+    }
 }
 
 /// A local that is declared and set, and one that has no value yet, a loop with its head and its end, and what stands

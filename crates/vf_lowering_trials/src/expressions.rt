@@ -2,10 +2,9 @@
 
 use std::alloc::Global;
 use vf_base::{IntType, Memory, Place, Sequence};
-use vf_declared::ctype::CType;
 use vf_declared::scope::Scope;
 use vf_declared::stack::Stack;
-use vf_lower::{Draft, Setting, lowered, passed, tested, valued};
+use vf_lower::{Draft, Setting, lowered, valued};
 use vf_syntax::expr::{Expr, ExprNode, Link, LinkList};
 use vf_syntax::operator::{BinaryOperator, Level};
 
@@ -47,46 +46,26 @@ fn less(alloc: Global) -> Result<Expr, Memory> {
     })
 }
 
-/// How an expression is asked for.
-#[derive(Clone, Copy)]
-enum As {
-    Value,
-    Test,
-    Truth,
-    Itself,
-}
-
-/// Lowers an expression.
-fn lower(setting: &Setting<'_>, draft: &mut Draft<'_>, expr: &Expr, way: As) -> Result<(), Memory> {
-    match way {
-        As::Value => {
-            let _value = valued(setting, draft, expr)?;
-        }
-        As::Test => {
-            let _test = tested(setting, draft, expr)?;
-        }
-        As::Truth => {
-            let _truth = passed(setting, draft, CType::Integer(IntType::Bool), expr)?;
-        }
-        As::Itself => {
-            let _outcome = lowered(setting, draft, expr)?;
-        }
-    }
-    Ok(())
-}
-
-/// How many nodes and locals an expression becomes in a setting.
-fn counts_in(setting: &Setting<'_>, expr: &Expr, way: As) -> Result<(usize, usize), Memory> {
+/// How many nodes and locals an expression becomes, as a value or as it is.
+fn counts_in(setting: &Setting<'_>, expr: &Expr, is_value: bool) -> Result<(usize, usize), Memory> {
     let mut draft = Draft {
         locals: Sequence::new(setting.alloc),
         nodes: Vec::new(setting.alloc),
     };
-    lower(setting, &mut draft, expr, way)?;
-    Ok((draft.nodes.len(), draft.locals.len()))
+    let is_lowered = if is_value {
+        valued(setting, &mut draft, expr).is_ok()
+    } else {
+        lowered(setting, &mut draft, expr).is_ok()
+    };
+    if is_lowered {
+        Ok((draft.nodes.len(), draft.locals.len()))
+    } else {
+        Err(Memory)
+    }
 }
 
-/// How many nodes and locals an expression becomes in a unit that declares nothing.
-fn counts(alloc: Global, expr: &Expr, way: As) -> Result<(usize, usize), Memory> {
+/// The same in a unit that declares nothing.
+fn counts(alloc: Global, expr: &Expr, is_value: bool) -> Result<(usize, usize), Memory> {
     let scope = Scope::new(alloc, 0);
     let numbers = Stack::new(alloc);
     let setting = Setting {
@@ -95,26 +74,20 @@ fn counts(alloc: Global, expr: &Expr, way: As) -> Result<(usize, usize), Memory>
         statement: column(1),
         alloc,
     };
-    counts_in(&setting, expr, way)
+    counts_in(&setting, expr, is_value)
 }
 
 /// How many nodes and locals `7 < 8` becomes.
-fn of_less(alloc: Global, way: As) -> Result<(usize, usize), Memory> {
-    let expr = less(alloc)?;
-    counts(alloc, &expr, way)
+fn of_less(alloc: Global, is_value: bool) -> Result<(usize, usize), Memory> {
+    match less(alloc) {
+        Ok(expr) => counts(alloc, &expr, is_value),
+        Err(memory) => Err(memory),
+    }
 }
 
 /// A comparison sets a truth value where a value is wanted, and is a test as it stands.
 #[test]
 fn comparisons(rt: HostRuntime) {
-    assert_eq!(rt; of_less(rt.alloc(), As::Value), Ok((4, 1)));
-    assert_eq!(rt; of_less(rt.alloc(), As::Test), Ok((0, 0)));
-}
-
-/// A number is left as it is, and is a truth value by a test against 0.
-#[test]
-fn numbers(rt: HostRuntime) {
-    let seven = number(1, 7);
-    assert_eq!(rt; counts(rt.alloc(), &seven, As::Itself), Ok((0, 0)));
-    assert_eq!(rt; counts(rt.alloc(), &seven, As::Truth), Ok((4, 1)));
+    assert_eq!(rt; of_less(rt.alloc(), true), Ok((4, 1)));
+    assert_eq!(rt; of_less(rt.alloc(), false), Ok((0, 0)));
 }

@@ -1,9 +1,8 @@
-//! What the trials share: the tree of a text, its files, and the end of a trial.
+//! What the trials share: the tokens and the tree of a text, and its files.
 
 use std::alloc::Global;
-use std::process::Abort;
 use vf_base::{Memory, NumberList, Place, Sequence, Text};
-use vf_lexer::{TokenList, lex};
+use vf_lexer::{Token, TokenList, lex};
 use vf_parse_real::plain::parse_plain;
 use vf_parse_whole::parse::parse;
 use vf_resolve::Files;
@@ -27,21 +26,35 @@ pub fn tokens(alloc: Global, text: &str, is_ghost: bool) -> Result<TokenList, Me
     }
 }
 
-/// The tree of a short text.
-pub fn parsed(alloc: Global, text: &str) -> Result<Unit, Memory> {
-    let tokens = tokens(alloc, text, false)?;
-    match parse(alloc, tokens.as_slice(), NumberList::new(alloc), END) {
+/// The tree of some tokens.
+fn tree_of(alloc: Global, read: &[Token]) -> Result<Unit, Memory> {
+    match parse(alloc, read, NumberList::new(alloc), END) {
         Ok(unit) => Ok(unit),
         Err(_) => Err(Memory),
     }
 }
 
-/// The tree of a short text without its annotations.
-pub fn parsed_plainly(alloc: Global, text: &str) -> Result<Unit, Memory> {
-    let tokens = tokens(alloc, text, false)?;
-    match parse_plain(alloc, tokens.as_slice(), NumberList::new(alloc), END) {
+/// The tree of some tokens without annotations.
+fn plain_tree_of(alloc: Global, read: &[Token]) -> Result<Unit, Memory> {
+    match parse_plain(alloc, read, NumberList::new(alloc), END) {
         Ok(unit) => Ok(unit),
         Err(_) => Err(Memory),
+    }
+}
+
+/// The tree of a short text.
+pub fn parsed(alloc: Global, text: &str) -> Result<Unit, Memory> {
+    match tokens(alloc, text, false) {
+        Ok(read) => tree_of(alloc, read.as_slice()),
+        Err(memory) => Err(memory),
+    }
+}
+
+/// The tree of a short text without its annotations.
+pub fn parsed_plainly(alloc: Global, text: &str) -> Result<Unit, Memory> {
+    match tokens(alloc, text, false) {
+        Ok(read) => plain_tree_of(alloc, read.as_slice()),
+        Err(memory) => Err(memory),
     }
 }
 
@@ -61,9 +74,4 @@ pub fn one_path(alloc: Global) -> Result<Vec<Text>, Memory> {
     let mut paths = Vec::new(alloc);
     paths.push(Text::from_bytes(alloc, b"one.c")?)?;
     Ok(paths)
-}
-
-/// Asserts that no text gets another answer than its row says.
-pub fn none_differs(rt: &impl Abort, differing: Option<&str>) {
-    assert_eq!(rt; differing, None, "the text of a row");
 }
