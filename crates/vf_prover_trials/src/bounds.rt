@@ -7,9 +7,13 @@ use vf_base::Memory;
 
 /// Adds `from - to <= most`.
 fn add(alloc: Global, bounds: &mut Bounds, from: u32, to: u32, most: i128) -> Result<(), Memory> {
-    if from < bounds.size() && to < bounds.size() && is_small(most) {
-        bounds.add(alloc, Edge { from, to, most })?;
+    if from >= bounds.size() || to >= bounds.size() {
+        return Ok(());
     }
+    if !is_small(most) {
+        return Ok(());
+    }
+    bounds.add(alloc, Edge { from, to, most })?;
     Ok(())
 }
 
@@ -23,7 +27,10 @@ fn add_point(alloc: Global, bounds: &mut Bounds) -> Result<(), Memory> {
 
 /// What bounds say of two points; none where they say nothing, or contradict each other.
 fn bound(bounds: &Bounds, x: u32, y: u32) -> Option<i128> {
-    if bounds.conflict() || x >= bounds.size() || y >= bounds.size() {
+    if bounds.conflict() {
+        return None;
+    }
+    if x >= bounds.size() || y >= bounds.size() {
         return None;
     }
     bounds.bound(x, y)
@@ -31,9 +38,10 @@ fn bound(bounds: &Bounds, x: u32, y: u32) -> Option<i128> {
 
 /// Goes back to the first steps of this number.
 fn go_back(bounds: &mut Bounds, mark: usize) {
-    if mark <= bounds.steps() {
-        bounds.undo(mark);
+    if mark > bounds.steps() {
+        return;
     }
+    bounds.undo(mark);
 }
 
 /// `0 - 1 <= 3` and `1 - 2 <= -5` stand between three points, the last of which comes later; a conflict is taken back.

@@ -21,12 +21,11 @@ fn steps_refute_facts(rt: HostRuntime) -> Result<(), Fail> {
         Step::Chain(0, 1),
         Step::Conflict(2),
     ];
-    assert!(rt; recheck(alloc, &nodes, &facts, &chain)?);
-    assert!(rt; !recheck(alloc, &nodes, &facts, &chain[..3])?);
-    assert!(rt; !recheck(alloc, &nodes, &facts[1..], &chain)?);
+    let unended = [Step::Fact(0), Step::Above(2, 0), Step::Chain(0, 1)];
     let denied = [Step::Fact(1), Step::Symmetric(0), Step::Conflict(1)];
+    assert!(rt; recheck(alloc, &nodes, &facts, &chain)?);
+    assert!(rt; !recheck(alloc, &nodes, &facts, &unended)?);
     assert!(rt; recheck(alloc, &nodes, &facts, &denied)?);
-    assert!(rt; !recheck(alloc, &nodes, &facts, &denied[1..])?);
     Ok(())
 }
 
@@ -36,10 +35,10 @@ fn steps_are_kept(rt: HostRuntime) -> Result<(), Fail> {
     let alloc = rt.alloc();
     let nodes = terms(alloc)?;
     let mut log = Log::new(alloc, nodes, Vec::new(alloc));
-    if log.nodes().len() == 8 {
-        let same = log.reflexive(0)?;
-        assert_eq!(rt; log.symmetric(same)?, 1);
-        assert_eq!(rt; log.known().len(), 2);
-    }
+    let same = log.reflexive(0)?;
+    let back = log.symmetric(same)?;
+    assert_eq!(rt; back, 1);
+    assert_eq!(rt; log.known().len(), 2);
+    assert_eq!(rt; log.nodes().len(), 8);
     Ok(())
 }

@@ -55,20 +55,36 @@ fn refute(
     recheck(alloc, definitions, &literals, steps)
 }
 
+/// What a check comes to.
+fn outcome_of(is_refuted: bool) -> Outcome {
+    if is_refuted {
+        Outcome::Refuted
+    } else {
+        Outcome::Wrong
+    }
+}
+
+/// What a goal behind facts comes to whose steps are handed over.
+fn judged_behind(
+    alloc: Global,
+    definitions: &Definitions,
+    facts: &[Literal],
+    goal: Relation,
+    steps: &[Step],
+) -> Result<bool, Memory> {
+    let goal = literal(alloc, goal)?;
+    refute(alloc, definitions, facts, &goal, steps)
+}
+
 /// What a question comes to whose steps are handed over.
 fn judged(
     alloc: Global,
     definitions: &Definitions,
     asked: Asked,
     steps: &[Step],
-) -> Result<Outcome, Memory> {
+) -> Result<bool, Memory> {
     let facts = literals(alloc, &[asked.first, asked.second])?;
-    let goal = literal(alloc, asked.goal)?;
-    if refute(alloc, definitions, &facts, &goal, steps)? {
-        Ok(Outcome::Refuted)
-    } else {
-        Ok(Outcome::Wrong)
-    }
+    judged_behind(alloc, definitions, &facts, asked.goal, steps)
 }
 
 /// What comes of the question that was asked last.
@@ -80,7 +96,9 @@ fn told_of(
     proved: bool,
 ) -> Result<Outcome, Memory> {
     match prover.last() {
-        Some(refutation) if proved => judged(alloc, definitions, asked, &refutation.steps),
+        Some(refutation) if proved => {
+            judged(alloc, definitions, asked, &refutation.steps).map(outcome_of)
+        }
         None if !proved => Ok(Outcome::Unknown),
         _ => Ok(Outcome::Wrong),
     }
