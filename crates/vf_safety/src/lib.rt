@@ -12,6 +12,7 @@
 #![tactic(auto)]
 
 mod array_laws;
+mod ghost_laws;
 mod laws;
 mod leak_laws;
 
@@ -19,5 +20,6 @@ pub use array_laws::{
     lists_are_in_order, no_cells_are_a_row, raw_rows_are_joined, raw_rows_are_split,
     rows_are_joined, rows_are_split, rows_have_lengths, unchanging_lemmas_hold,
 };
+pub use ghost_laws::ghost_steps_keep;
 pub use laws::{accepted_calls_are_safe, accepted_programs_are_safe, accepted_threads_are_safe};
 pub use leak_laws::{no_block_is_left, nothing_is_leaked, nothing_is_lost};
