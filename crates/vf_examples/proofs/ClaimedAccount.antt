@@ -1,5 +1,5 @@
 -- The function over an account is accepted, and keeps the contract of its type, which leaves open what the account holds: that it is a number is seen in the chunk.
-use Rattle.std.proofs.Common.{◌≡◌, ℕ, zero, suc, pos, List, [], ◌∷◌, ◌++◌, Some, refl, subst, ◌∙◌, inl, inr, arith}
+use Rattle.std.proofs.Common.{ℕ, zero, suc, pos, List, [], ◌∷◌, ◌++◌, Some, refl, subst, ◌∙◌, inl, inr, arith}
 use Rattle.vf_tree.specs.Core as core
 use Rattle.vf_model.specs.Values.{Dyadic, Values}
 use Rattle.vf_model.specs.Values as values
@@ -18,7 +18,6 @@ use Rattle.vf_rules.specs.Accept.{all_of_it, call_store, pointer_store, beginnin
 use Rattle.vf_rules.specs.GhostSteps.{AfterGhostSteps, no_step, may_see}
 use Rattle.vf_rules.specs.Claims.{before_claim, Ends, StandsIn, Refines, KeepsClaim}
 use Rattle.vf_rules.proofs.Terms.{stored_own, stored_grows}
-use Rattle.vf_examples.specs.BoxProgram.{somewhere}
 use Rattle.vf_examples.specs.Claiming.{account, audit_name, audit, claiming_program, audit_contract, auditor_contract, claiming_environment}
 use Rattle.vf_examples.proofs.NewSymbols.{fresh_stored, fresh_call, fresh_state, new_symbol}
 use Rattle.vf_examples.proofs.SharingFacts.{among_one, by_place, call_fixed, fixed_stored, integer_is_no_void, name_bound, nothing_bound, same_self, sorted}
@@ -107,8 +106,8 @@ holds_number v x q (suc n) values.none meet h = absurd meet
 holds_number v x q (suc n) (values.more a values.none) meet h = absurd meet.1
 holds_number v x q (suc n) (values.more a (values.more b others)) meet h = subst (λ z. HasSort claiming_environment z Integers) (h.begins 1 (omega arith) ∙ (meet.1).0) (h.sorts 1 Integers refl)
 
-head_sorted : (v : Valuation) (x : Dyadic) (q : Part) → (n : ℕ) × (vs : Values) × AllMeet (Just (v (Numbered 0)) ∷ Just (v (Numbered 1)) ∷ []) (listed vs) × MeansAt claiming_environment n x (Plain account) vs q → HasSort claiming_environment (v (Numbered 1)) Integers
-head_sorted v x q (n, vs, meet, h) = holds_number v x q n vs meet h
+head_sorted : (v : Valuation) (x : Dyadic) (q : Part) → (n : ℕ) × ((vs : Values) × AllMeet (Just (v (Numbered 0)) ∷ Just (v (Numbered 1)) ∷ []) (listed vs) × MeansAt claiming_environment n x (Plain account) vs q) → HasSort claiming_environment (v (Numbered 1)) Integers
+head_sorted v x q (n, (vs, meet, h)) = holds_number v x q n vs meet h
 
 account_sorted : (v : Valuation) (p : Part) → ChunksMean claiming_environment v (account_there ∷ []) p → HasSort claiming_environment (v (Numbered 1)) Integers
 account_sorted v p (q, r, sums, means, others) = head_sorted v means.fraction q means.head

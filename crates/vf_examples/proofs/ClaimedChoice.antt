@@ -12,7 +12,7 @@ use Rattle.vf_rules.specs.Take.{same, takes_all, takes_later, removes_here, no_c
 use Rattle.vf_rules.specs.Laws.{Grows}
 use Rattle.vf_rules.specs.Accept.{all_of_it, call_store, pointer_store, beginning, HasContract, AreFixed, Accepts, do_load, do_return, IsAcceptedFunction}
 use Rattle.vf_rules.specs.GhostSteps.{AfterGhostSteps, no_step, may_split}
-use Rattle.vf_rules.specs.Claims.{before_claim, Ends, StandsIn, Refines, KeepsClaim}
+use Rattle.vf_rules.specs.Claims.{Ends, StandsIn, Refines, KeepsClaim}
 use Rattle.vf_rules.proofs.Terms.{stored_own, stored_grows}
 use Rattle.vf_examples.specs.BoxProgram.{somewhere}
 use Rattle.vf_examples.specs.Claiming.{balance, read_name, read, claiming_program, read_contract, reader_contract, claiming_environment}

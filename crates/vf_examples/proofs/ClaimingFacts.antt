@@ -1,5 +1,5 @@
 -- What the example with three claims needs: states, names that are bound, facts of numbers, and sorts that have values.
-use Rattle.std.proofs.Common.{◌≡◌, ℕ, zero, suc, pos, List, [], ◌∷◌, slice_get, Option, Some, None, refl, sym, ap, subst, ◌∙◌, ◌⊎◌, inl, inr}
+use Rattle.std.proofs.Common.{◌≡◌, zero, suc, pos, List, [], ◌∷◌, Some, refl, sym, subst, ◌⊎◌, inl, inr}
 use Rattle.vf_base.specs.declared.int_type.IntType.TheVariants as types
 use Rattle.vf_tree.specs.Core.{Integer, LessEqual}
 use Rattle.vf_model.specs.Values.{Value}

@@ -1,6 +1,6 @@
 -- The program of which three functions claim function types is accepted.
 use Rattle.std.specs.Prelude.{IsTrue, ◌&&◌}
-use Rattle.std.proofs.Common.{◌≡◌, zero, suc, pos, Bool, true, false, cond, List, [], ◌∷◌, Some, None, refl, sym, ap, subst, ◌∙◌, ◌⊎◌, inl, inr, arith}
+use Rattle.std.proofs.Common.{◌≡◌, zero, suc, pos, Bool, true, false, cond, List, [], ◌∷◌, Some, refl, sym, ap, subst, ◌∙◌, ◌⊎◌, inl, inr, arith}
 use Rattle.std.proofs.lemmas.Bool.{false≢true}
 use Rattle.vf_tree.specs.Core.{Identity, FunctionTree}
 use Rattle.vf_tree.specs.Core as core

@@ -5,7 +5,7 @@ use Rattle.vf_tree.specs.Core.{Identity, Field, TypeTree, Integer, PointerToInt,
 use Rattle.vf_tree.specs.Core as core
 use Rattle.vf_model.specs.Values.{same_identity}
 use Rattle.vf_meaning.specs.Ghost.{Sort, Integers, Pointers, Datatype, Numbered, Result, ConstructorTree, GhostExpression, Variable, Number, Compare, Or}
-use Rattle.vf_meaning.specs.Assertions.{PatternTree, Is, Names, Wild, Named, Assertion, Pure, Both, Cell, Chunk, BodyName, Plain, Instance, BodyTree, PredicateTree, ContractTree, Environment}
+use Rattle.vf_meaning.specs.Assertions.{PatternTree, Is, Names, Wild, Named, Assertion, Pure, Both, Cell, Chunk, BodyName, Plain, Instance, BodyTree, ContractTree, Environment}
 use Rattle.vf_rules.specs.Mutexes.{full, name}
 use Rattle.vf_safety.specs.Laws.{IsAcceptedProgram}
 use Rattle.vf_examples.specs.BoxProgram.{somewhere, main_name, box_contract}
