@@ -22,6 +22,7 @@ use Rattle.vf_rules.specs.Loops.{Loop}
 use Rattle.vf_rules.specs.Accept.{all_of_it, cell_chunk, block_chunk, call_store, with_local, beginning, HasContract, KeepsFixed, Accepts, do_if, do_load, do_store, do_allocate, do_free, do_return, may_drop, IsAcceptedFunction}
 use Rattle.vf_rules.proofs.Terms.{stored_own}
 use Rattle.vf_rules.proofs.Takes.{equal_met}
+use Rattle.vf_rules.specs.GhostSteps.{no_step}
 use Rattle.vf_safety.specs.Laws.{AreAccepted}
 use Rattle.vf_examples.specs.BoxProgram.{somewhere, box_name, content, box_main, box_program, box_contract, box_environment, BoxIsAccepted}
 
@@ -164,5 +165,5 @@ box_is_accepted = record {
   contract = box_contract;
   has = has_contract;
   alone = refl;
-  begins = (bound_truth (call_store []), record { by = λ v m. refl }, refl);
+  begins = no_step (λ x t is. is, (bound_truth (call_store []), record { by = λ v m. refl }, refl));
 }

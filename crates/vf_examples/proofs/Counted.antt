@@ -21,15 +21,15 @@ use Rattle.vf_rules.specs.States.{Fact, Holds, OfSort, SymbolicState, Meets, Ent
 use Rattle.vf_rules.specs.Fresh.{symbol, IsFreshIn, IsNew, UsesFacts}
 use Rattle.vf_rules.specs.Types.{facts_of_type}
 use Rattle.vf_rules.specs.Take.{same}
-use Rattle.vf_rules.specs.Consume.{EntailsAll, Consume}
-use Rattle.vf_rules.specs.Produce.{Produce}
+use Rattle.vf_rules.specs.Consume.{EntailsAll}
 use Rattle.vf_rules.specs.Laws.{IsAmong}
 use Rattle.vf_rules.specs.Predicates.{store_of, AreInhabited}
 use Rattle.vf_rules.specs.Loops.{OfLocal, Changing, facts_of_known, LocalsCome, Loop, IsLoop, Comes, Enters}
 use Rattle.vf_rules.specs.Accept.{all_of_it, call_store, pointer_store, with_local, receiving, beginning, HasContract, KeepsFixed, AreFixed, Accepts, do_set, do_if, do_call_pointer, do_return, may_enter, may_repeat, IsAcceptedFunction}
 use Rattle.vf_rules.specs.Threads.{HasSignature}
-use Rattle.vf_rules.specs.Claims.{before_claim, Refines, KeepsClaim}
-use Rattle.vf_rules.proofs.Terms.{stored_own}
+use Rattle.vf_rules.specs.GhostSteps.{AfterGhostSteps, no_step}
+use Rattle.vf_rules.specs.Claims.{before_claim, StandsIn, Refines, KeepsClaim}
+use Rattle.vf_rules.proofs.Terms.{stored_own, stored_grows}
 use Rattle.vf_rules.proofs.Takes.{equal_met}
 use Rattle.vf_safety.specs.Laws.{AreAccepted}
 use Rattle.vf_examples.specs.BoxProgram.{somewhere}
@@ -360,11 +360,7 @@ before : SymbolicState
 before = assuming (before_claim seven seven_contract) (Holds (Truth true))
 
 abbrev KeptBy : terms.Store → SymbolicState → Type 0
-KeptBy s st =
-    Consume counting_environment counting_program [] all_of_it seven_contract.requires_this (call_store []) (record st { names = s }) (λ s1 st1.
-    (y : ℕ) × IsNew y all_of_it s1 [] st1 × AreFixed seven_contract s1
-    × Produce counting_environment counting_program [] all_of_it seven_contract.ensures_this (stored s1 Result (symbol y)) (assuming_all st1 (facts_of_type (Integer types.Int) (symbol y))) (λ s2 st2.
-    Consume counting_environment counting_program [] all_of_it seven_contract.ensures_this (stored st2.names Result (symbol y)) st2 (λ s3 st3. (st3.chunks ≡ []) × KeepsFixed seven_contract st2.names s3)))
+KeptBy s st = AfterGhostSteps counting_environment counting_program (StandsIn counting_environment counting_program seven seven_contract seven_contract) (record st { names = s })
 
 fixed_call : AreFixed seven_contract (call_store [])
 fixed_call (Numbered k) t is = none_some is
@@ -374,24 +370,28 @@ fixed_call CurrentThread t is = tt
 
 kept_first : KeptBy (pointer_store [] (Function seven_name)) before
 unfolding before
-kept_first = (
-  no_name (call_store []),
-  record { by = λ v m. refl },
+kept_first = no_step (
+  stored_grows (call_store []) This (Function seven_name) refl,
+  λ k so t h is. none_some h,
   (
-    0,
-    record {
-      state = record { locals = λ u. u; names = free_pointer 0; chunks = λ u. u; path = λ u. no_use u };
-      store = fresh_in_names 0;
-      scale_free = λ u. u;
-      arguments_free = λ u. u;
-    },
-    fixed_call,
+    no_name (call_store []),
+    record { by = λ v m. refl },
     (
-      result_bound (call_store []) (symbol 0),
-      inr (
-        result_bound (pointer_store [] (Function seven_name)) (symbol 0),
-        record { by = λ v m. ((((m.1).1).1).1).0 },
-        (refl, keeps (pointer_store [] (Function seven_name)) (symbol 0)),
+      0,
+      record {
+        state = record { locals = λ u. u; names = free_pointer 0; chunks = λ u. u; path = λ u. no_use u };
+        store = fresh_in_names 0;
+        scale_free = λ u. u;
+        arguments_free = λ u. u;
+      },
+      fixed_call,
+      (
+        result_bound (call_store []) (symbol 0),
+        inr (no_step (
+          symbol 0,
+          stored_own (pointer_store [] (Function seven_name)) Result (symbol 0),
+          (result_bound (pointer_store [] (Function seven_name)) (symbol 0), record { by = λ v m. ((((m.1).1).1).1).0 }, (refl, λ x t fixed is. is)),
+        )),
       ),
     ),
   ),
@@ -407,7 +407,6 @@ refines = record {
   parameters = refl;
   outs = record { store = pointer_store [] (Function seven_name); state = before } ∷ [];
   required = (no_name (pointer_store [] (Function seven_name)), inr (inl (refl, refl)));
-  sorted = λ s st among k so t h is. none_some h;
   kept = λ s st among. among_one KeptBy (pointer_store [] (Function seven_name)) before kept_first s st among;
 }
 
@@ -432,5 +431,5 @@ counting_is_accepted = record {
   contract = seven_contract;
   has = main_has;
   alone = refl;
-  begins = (no_name (call_store []), record { by = λ v m. refl }, refl);
+  begins = no_step (λ x t is. is, (no_name (call_store []), record { by = λ v m. refl }, refl));
 }

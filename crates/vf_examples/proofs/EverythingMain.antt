@@ -23,6 +23,7 @@ use Rattle.vf_rules.specs.Mutexes.{create_mutex_ghost_arg_name, ghost_arg_body, 
 use Rattle.vf_rules.specs.Threads.{thread_run_pre, thread_run_joinable, run_joinable, start_joinable, HasSignature, IsRunType, creates, acquires, releases, starts_joinable}
 use Rattle.vf_rules.specs.Claims.{KeepsClaim}
 use Rattle.vf_rules.specs.Accept.{all_of_it, AreFixed, call_store, cell_chunk, HasContract, do_allocate, do_if, do_abort, do_store, do_prelude, may_drop, may_close, IsAcceptedFunction}
+use Rattle.vf_rules.specs.GhostSteps.{no_step}
 use Rattle.vf_safety.specs.Laws.{AreAccepted}
 use Rattle.vf_examples.specs.BoxProgram.{somewhere, box_contract}
 use Rattle.vf_examples.specs.Sharing.{counter_name, count_field, mutex_field, tick_name, tick, shared_body, tick_contract}
@@ -498,5 +499,5 @@ everything_is_accepted = record {
   contract = box_contract;
   has = main_has;
   alone = refl;
-  begins = (nothing_bound (call_store []), record { by = λ v m. refl }, refl);
+  begins = no_step (λ x t is. is, (nothing_bound (call_store []), record { by = λ v m. refl }, refl));
 }

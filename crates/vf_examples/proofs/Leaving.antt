@@ -31,6 +31,7 @@ use Rattle.vf_rules.specs.Predicates.{store_of}
 use Rattle.vf_rules.specs.Accept.{all_of_it, cell_chunk, block_chunk, call_store, with_local, beginning, HasContract, KeepsFixed, Accepts, do_if, do_allocate, do_return, may_drop, may_leak, IsAcceptedFunction}
 use Rattle.vf_rules.proofs.Terms.{stored_own}
 use Rattle.vf_rules.proofs.Takes.{equal_met}
+use Rattle.vf_rules.specs.GhostSteps.{no_step}
 use Rattle.vf_safety.specs.Laws.{AreAccepted, IsAcceptedProgram}
 use Rattle.vf_examples.specs.BoxProgram.{somewhere, box_name, content, box_contract, box_environment}
 use Rattle.vf_examples.specs.Leaving.{leaving_main, leaving_program, what_is_left, leaving_environment, LeavingIsAccepted}
@@ -291,7 +292,7 @@ leaving_is_accepted = record {
     contract = box_contract;
     has = has_contract;
     alone = refl;
-    begins = (no_names (call_store []), record { by = λ v m. refl }, refl);
+    begins = no_step (λ x t is. is, (no_names (call_store []), record { by = λ v m. refl }, refl));
   };
   unleaked_refused = unleaked_refused;
 }

@@ -18,3 +18,8 @@ pub mod EverythingMain
 pub mod Unsafe
 pub mod NoLeaks
 pub mod Leaving
+pub mod ClaimingFacts
+pub mod ClaimedRow
+pub mod ClaimedAccount
+pub mod ClaimedChoice
+pub mod ClaimingMain

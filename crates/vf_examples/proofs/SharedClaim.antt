@@ -1,16 +1,16 @@
 -- The function of the thread keeps the contract of the type that it claims.
-use Rattle.std.proofs.Common.{◌≡◌, ℕ, List, [], ◌∷◌, Some, refl, inl, inr}
-use Rattle.vf_meaning.specs.Ghost.{Pointers, Anything, Numbered, Result, This, CurrentThread, Function}
+use Rattle.std.proofs.Common.{List, [], ◌∷◌, Some, refl, inl, inr}
+use Rattle.vf_meaning.specs.Ghost.{Pointers, Anything, Numbered, Result, This, Function}
 use Rattle.vf_rules.specs.Terms.{Store, stored}
-use Rattle.vf_rules.specs.States.{Fact, OfSort, SymbolicChunk, SymbolicState, assuming_all}
-use Rattle.vf_rules.specs.Fresh.{symbol, IsFreshIn, IsNew}
+use Rattle.vf_rules.specs.States.{Fact, OfSort, SymbolicChunk, SymbolicState}
+use Rattle.vf_rules.specs.Fresh.{symbol, IsFreshIn}
 use Rattle.vf_rules.specs.Take.{takes_all, no_change}
-use Rattle.vf_rules.specs.Produce.{Produce}
-use Rattle.vf_rules.specs.Consume.{Consume}
-use Rattle.vf_rules.specs.Predicates.{AreSorted}
+use Rattle.vf_rules.specs.Laws.{Grows}
 use Rattle.vf_rules.specs.Threads.{run_joinable}
-use Rattle.vf_rules.specs.Claims.{Refines, before_claim}
-use Rattle.vf_rules.specs.Accept.{all_of_it, AreFixed, facts_of_result, call_store, pointer_store, KeepsFixed}
+use Rattle.vf_rules.specs.GhostSteps.{AfterGhostSteps, no_step}
+use Rattle.vf_rules.specs.Claims.{Ends, StandsIn, Refines, before_claim}
+use Rattle.vf_rules.proofs.Terms.{stored_own, stored_grows}
+use Rattle.vf_rules.specs.Accept.{all_of_it, call_store, pointer_store}
 use Rattle.vf_examples.specs.Sharing.{tick_name, tick, Beside, program_beside, tick_contract, environment_beside}
 use Rattle.vf_examples.proofs.NewSymbols.{fresh_stored, fresh_call, fresh_state, new_symbol}
 use Rattle.vf_examples.proofs.SharingFacts.{among_one, by_place, call_fixed, fixed_stored, name_bound, nothing_bound, same_self, sorted}
@@ -30,78 +30,73 @@ module _ (beside : Beside) where
   own_store = stored (call_store (symbol 0 ∷ [])) (Numbered 1) (symbol 1)
 
   abbrev KeptBy : Store → SymbolicState → Type 0
-  KeptBy s st =
-      Consume (environment_beside beside) (program_beside beside) tick_contract.sorts all_of_it tick_contract.requires_this (call_store (symbol 0 ∷ [])) (record st { names = s }) (λ s1 st1.
-      (y : ℕ) × IsNew y all_of_it s1 [] st1 × AreFixed tick_contract s1
-      × Produce (environment_beside beside) (program_beside beside) tick_contract.sorts all_of_it tick_contract.ensures_this (stored s1 Result (symbol y)) (assuming_all st1 (facts_of_result tick.signature.result (symbol y))) (λ s2 st2.
-      Consume (environment_beside beside) (program_beside beside) run_joinable.sorts all_of_it run_joinable.ensures_this (stored st2.names Result (symbol y)) st2 (λ s3 st3. (st3.chunks ≡ []) × KeepsFixed run_joinable st2.names s3)))
+  KeptBy s st = AfterGhostSteps (environment_beside beside) (program_beside beside) (StandsIn (environment_beside beside) (program_beside beside) tick tick_contract run_joinable) (record st { names = s })
 
   fresh_claimed : IsFreshIn 2 claim_names
   fresh_claimed = fresh_stored 2 (pointer_store (symbol 0 ∷ []) (Function tick_name)) (Numbered 1) (symbol 1) (fresh_stored 2 (call_store (symbol 0 ∷ [])) This (Function tick_name) (fresh_call 2 (symbol 0 ∷ []) refl) refl) refl
 
-  keeps_claimed : KeepsFixed run_joinable claim_names (stored claim_names Result (symbol 2))
-  keeps_claimed (Numbered k) u fixed is = is
-  keeps_claimed Result u fixed is = absurd fixed
-  keeps_claimed This u fixed is = is
-  keeps_claimed CurrentThread u fixed is = is
+  have_claimed : Grows (call_store (symbol 0 ∷ [])) claim_names
+  have_claimed x t is = stored_grows (pointer_store (symbol 0 ∷ []) (Function tick_name)) (Numbered 1) (symbol 1) refl x t (stored_grows (call_store (symbol 0 ∷ [])) This (Function tick_name) refl x t is)
 
-  kept_claim : KeptBy claim_names (claimed_at (call_store (symbol 0 ∷ [])) (pre_chunk written_share (symbol 0) (symbol 1) ∷ []))
-  kept_claim = (
-    nothing_bound (call_store (symbol 0 ∷ [])),
+  ended : Ends (environment_beside beside) (program_beside beside) run_joinable (claimed_at (stored claim_names Result (symbol 2)) (post_chunk written_share (symbol 0) (symbol 1) ∷ []))
+  ended = (
+    symbol 2,
+    stored_own claim_names Result (symbol 2),
     (
-      claimed_at claim_names (pre_chunk written_share (symbol 0) (symbol 1) ∷ []),
-      no_change,
+      name_bound (stored claim_names Result (symbol 2)) This (Function tick_name) refl,
       (
-        tt,
+        claimed_at (stored claim_names Result (symbol 2)) (post_chunk written_share (symbol 0) (symbol 1) ∷ []),
+        no_change,
         (
-          pre_chunk written_share (symbol 0) (symbol 1),
-          [],
-          takes_all (same_self (environment_beside beside) claim_path written_share),
+          tt,
           (
-            (refl, same_self (environment_beside beside) claim_path (Function tick_name)),
+            post_chunk written_share (symbol 0) (symbol 1),
+            [],
+            takes_all (same_self (environment_beside beside) claim_path written_share),
             (
-              name_bound (call_store (symbol 0 ∷ [])) (Numbered 0) (symbol 0) refl,
-              same_self (environment_beside beside) claim_path (symbol 0),
+              (refl, same_self (environment_beside beside) claim_path (Function tick_name)),
               (
-                refl,
-                (by_place (environment_beside beside) claim_path 2 (OfSort (symbol 1) Anything) refl, tt),
+                name_bound (stored claim_names Result (symbol 2)) (Numbered 0) (symbol 0) refl,
+                same_self (environment_beside beside) claim_path (symbol 0),
+                (name_bound (stored claim_names Result (symbol 2)) (Numbered 1) (symbol 1) refl, same_self (environment_beside beside) claim_path (symbol 1), (refl, λ x t fixed is. is)),
+              ),
+            ),
+          ),
+        ),
+      ),
+    ),
+  )
+
+  stands_in : StandsIn (environment_beside beside) (program_beside beside) tick tick_contract run_joinable (claimed_at claim_names (pre_chunk written_share (symbol 0) (symbol 1) ∷ []))
+  stands_in = (
+    have_claimed,
+    sorted (environment_beside beside) claim_path tick_contract.sorts (symbol 0 ∷ []) (by_place (environment_beside beside) claim_path 0 (OfSort (symbol 0) Pointers) refl, tt),
+    (
+      nothing_bound (call_store (symbol 0 ∷ [])),
+      (
+        claimed_at claim_names (pre_chunk written_share (symbol 0) (symbol 1) ∷ []),
+        no_change,
+        (
+          tt,
+          (
+            pre_chunk written_share (symbol 0) (symbol 1),
+            [],
+            takes_all (same_self (environment_beside beside) claim_path written_share),
+            (
+              (refl, same_self (environment_beside beside) claim_path (Function tick_name)),
+              (
+                name_bound (call_store (symbol 0 ∷ [])) (Numbered 0) (symbol 0) refl,
+                same_self (environment_beside beside) claim_path (symbol 0),
                 (
-                  2,
-                  new_symbol 2 all_of_it own_store [] (claimed_at claim_names []) (fresh_state 2 (claimed_at claim_names []) fresh_claimed refl refl refl) (fresh_stored 2 (call_store (symbol 0 ∷ [])) (Numbered 1) (symbol 1) (fresh_call 2 (symbol 0 ∷ []) refl) refl) refl refl,
-                  fixed_stored tick_contract (call_store (symbol 0 ∷ [])) (Numbered 1) (symbol 1) (call_fixed tick_contract (symbol 0 ∷ []) refl) (inr (inr (inr (inr (inl refl))))),
+                  refl,
+                  (by_place (environment_beside beside) claim_path 2 (OfSort (symbol 1) Anything) refl, tt),
                   (
-                    nothing_bound (stored own_store Result (symbol 2)),
+                    2,
+                    new_symbol 2 all_of_it own_store [] (claimed_at claim_names []) (fresh_state 2 (claimed_at claim_names []) fresh_claimed refl refl refl) (fresh_stored 2 (call_store (symbol 0 ∷ [])) (Numbered 1) (symbol 1) (fresh_call 2 (symbol 0 ∷ []) refl) refl) refl refl,
+                    fixed_stored tick_contract (call_store (symbol 0 ∷ [])) (Numbered 1) (symbol 1) (call_fixed tick_contract (symbol 0 ∷ []) refl) (inr (inr (inr (inr (inl refl))))),
                     (
-                      tt,
-                      (
-                        name_bound (stored own_store Result (symbol 2)) (Numbered 0) (symbol 0) refl,
-                        (
-                          name_bound (stored own_store Result (symbol 2)) (Numbered 1) (symbol 1) refl,
-                          (
-                            name_bound (stored claim_names Result (symbol 2)) This (Function tick_name) refl,
-                            (
-                              claimed_at claim_names (post_chunk written_share (symbol 0) (symbol 1) ∷ []),
-                              no_change,
-                              (
-                                tt,
-                                (
-                                  post_chunk written_share (symbol 0) (symbol 1),
-                                  [],
-                                  takes_all (same_self (environment_beside beside) claim_path written_share),
-                                  (
-                                    (refl, same_self (environment_beside beside) claim_path (Function tick_name)),
-                                    (
-                                      name_bound (stored claim_names Result (symbol 2)) (Numbered 0) (symbol 0) refl,
-                                      same_self (environment_beside beside) claim_path (symbol 0),
-                                      (name_bound (stored claim_names Result (symbol 2)) (Numbered 1) (symbol 1) refl, same_self (environment_beside beside) claim_path (symbol 1), (refl, keeps_claimed)),
-                                    ),
-                                  ),
-                                ),
-                              ),
-                            ),
-                          ),
-                        ),
-                      ),
+                      nothing_bound (stored own_store Result (symbol 2)),
+                      (tt, (name_bound (stored own_store Result (symbol 2)) (Numbered 0) (symbol 0) refl, (name_bound (stored own_store Result (symbol 2)) (Numbered 1) (symbol 1) refl, no_step ended))),
                     ),
                   ),
                 ),
@@ -133,7 +128,5 @@ module _ (beside : Beside) where
         ),
       ),
     );
-    sorted = λ s st among. among_one (λ s st. AreSorted (environment_beside beside) st.path tick_contract.sorts (symbol 0 ∷ [])) claim_names (claimed_at (call_store (symbol 0 ∷ [])) (pre_chunk written_share (symbol 0) (symbol 1) ∷ []))
-        (sorted (environment_beside beside) claim_path tick_contract.sorts (symbol 0 ∷ []) (by_place (environment_beside beside) claim_path 0 (OfSort (symbol 0) Pointers) refl, tt)) s st among;
-    kept = λ s st among. among_one KeptBy claim_names (claimed_at (call_store (symbol 0 ∷ [])) (pre_chunk written_share (symbol 0) (symbol 1) ∷ [])) kept_claim s st among;
+    kept = λ s st among. among_one KeptBy claim_names (claimed_at (call_store (symbol 0 ∷ [])) (pre_chunk written_share (symbol 0) (symbol 1) ∷ [])) (no_step stands_in) s st among;
   }

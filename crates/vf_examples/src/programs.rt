@@ -1,6 +1,7 @@
 //! Programs that are accepted, and programs that are refused. Each function does nothing; its contract is the example.
 
 ghost use Rattle.vf_examples.specs.BoxProgram.{BoxIsAccepted};
+ghost use Rattle.vf_examples.specs.Claiming.{ClaimingIsAccepted};
 ghost use Rattle.vf_examples.specs.Counting.{CountingIsAccepted};
 ghost use Rattle.vf_examples.specs.Everything.{EverythingIsAccepted};
 ghost use Rattle.vf_examples.specs.Leaving.{LeavingIsAccepted};
@@ -36,4 +37,11 @@ pub fn examples_leak_nothing()
 /// A program that leaks the struct that it allocates is accepted where a leak stands, and is not where none does.
 pub fn leaving_is_accepted()
     ensures { LeavingIsAccepted }
+{}
+
+/// A program of three functions that claim function types is accepted: one needs of its precondition what the
+/// row of the type's shows, one names what the type's leaves open, and one takes in each case of a disjunction
+/// of the type's another cell.
+pub fn claiming_is_accepted()
+    ensures { ClaimingIsAccepted }
 {}

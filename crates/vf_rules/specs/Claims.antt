@@ -4,7 +4,7 @@ use Rattle.vf_tree.specs.Core.{Identity, FunctionTree, ProgramTree}
 use Rattle.vf_model.specs.State.{function_named}
 use Rattle.vf_meaning.specs.Ghost.{Result, Function}
 use Rattle.vf_meaning.specs.Assertions.{ContractTree, Environment}
-use Rattle.vf_rules.specs.Terms.{stored}
+use Rattle.vf_rules.specs.Terms.{Term, stored}
 use Rattle.vf_rules.specs.Terms as terms
 use Rattle.vf_rules.specs.States.{SymbolicState, assuming_all}
 use Rattle.vf_rules.specs.Fresh.{symbol, IsNew}
@@ -13,6 +13,7 @@ use Rattle.vf_rules.specs.Consume.{Consume}
 use Rattle.vf_rules.specs.Laws.{Outcome, IsAmong}
 use Rattle.vf_rules.specs.Predicates.{AreSorted}
 use Rattle.vf_rules.specs.Accept.{all_of_it, call_store, pointer_store, parameter_symbols, facts_of_types, facts_of_sorts, facts_of_result, HasContract, AreFixed, KeepsFixed}
+use Rattle.vf_rules.specs.GhostSteps.{AfterGhostSteps, NamesHave}
 
 -- the state in which a claim is checked: the parameters have new symbols of their types and sorts, and nothing else is there
 abbrev pub before_claim : FunctionTree → ContractTree → SymbolicState
@@ -23,17 +24,31 @@ before_claim f contract = record {
   path = facts_of_types f.signature.parameters (parameter_symbols (length f.signature.parameters)) ++ facts_of_sorts contract.sorts (parameter_symbols (length f.signature.parameters));
 }
 
--- A function's own contract refines that of a type: the type's precondition is produced, the own one consumed, the own postcondition produced with a new result, the type's consumed, and nothing is left
+-- the state with a term for the result among its ghost names
+abbrev pub with_result : SymbolicState → Term → SymbolicState
+with_result st t = record st { names = stored st.names Result t }
+
+-- a contract is ended in a state whose ghost names have the result: its postcondition is consumed, and nothing is left
+abbrev pub Ends : Environment → ProgramTree → ContractTree → SymbolicState → Type 0
+Ends e p contract st =
+    (t : Term) × (st.names Result ≡ Some t) × Consume e p contract.sorts all_of_it contract.ensures_this st.names st (λ s1 st1. (st1.chunks ≡ []) × KeepsFixed contract st.names s1)
+
+-- the own contract stands in for another one: the parameters have its sorts, its precondition is consumed, its postcondition produced with a new result, and after ghost steps the other contract is ended
+abbrev pub StandsIn : Environment → ProgramTree → FunctionTree → ContractTree → ContractTree → SymbolicState → Type 0
+StandsIn e p f own contract st =
+    NamesHave (parameter_symbols (length f.signature.parameters)) st
+    × AreSorted e st.path own.sorts (parameter_symbols (length f.signature.parameters))
+    × Consume e p own.sorts all_of_it own.requires_this (call_store (parameter_symbols (length f.signature.parameters))) st (λ s1 st1.
+    (y : ℕ) × IsNew y all_of_it s1 [] st1 × AreFixed own s1
+    × Produce e p own.sorts all_of_it own.ensures_this (stored s1 Result (symbol y)) (assuming_all st1 (facts_of_result f.signature.result (symbol y))) (λ s2 st2.
+    AfterGhostSteps e p (Ends e p contract) (with_result st2 (symbol y))))
+
+-- A function's own contract refines that of a type: the type's precondition is produced, and after ghost steps from each outcome the own contract stands in for the type's
 pub record Refines (e : Environment) (p : ProgramTree) (f : FunctionTree) (own contract : ContractTree) (g : Identity) : Type 0 where
   pub parameters : contract.parameters ≡ length f.signature.parameters
   pub outs : List Outcome
   pub required : Produce e p contract.sorts all_of_it contract.requires_this (pointer_store (parameter_symbols (length f.signature.parameters)) (Function g)) (before_claim f contract) (IsAmong outs)
-  pub sorted : (s : terms.Store) (st : SymbolicState) → IsAmong outs s st → AreSorted e st.path own.sorts (parameter_symbols (length f.signature.parameters))
-  pub kept : (s : terms.Store) (st : SymbolicState) → IsAmong outs s st
-      → Consume e p own.sorts all_of_it own.requires_this (call_store (parameter_symbols (length f.signature.parameters))) (record st { names = s }) (λ s1 st1.
-      (y : ℕ) × IsNew y all_of_it s1 [] st1 × AreFixed own s1
-      × Produce e p own.sorts all_of_it own.ensures_this (stored s1 Result (symbol y)) (assuming_all st1 (facts_of_result f.signature.result (symbol y))) (λ s2 st2.
-      Consume e p contract.sorts all_of_it contract.ensures_this (stored st2.names Result (symbol y)) st2 (λ s3 st3. (st3.chunks ≡ []) × KeepsFixed contract st2.names s3)))
+  pub kept : (s : terms.Store) (st : SymbolicState) → IsAmong outs s st → AfterGhostSteps e p (StandsIn e p f own contract) (record st { names = s })
 
 -- a function of the program keeps the contract of a type that it claims
 pub record KeepsClaim (e : Environment) (p : ProgramTree) (g : Identity) (contract : ContractTree) : Type 0 where

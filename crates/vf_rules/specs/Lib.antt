@@ -17,5 +17,6 @@ pub mod Mutexes
 pub mod Threads
 pub mod Lemmas
 pub mod Accept
+pub mod GhostSteps
 pub mod Claims
 pub mod GhostLaws

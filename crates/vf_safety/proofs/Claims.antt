@@ -1,5 +1,5 @@
 -- A function is safe under the contract of a type that it claims.
-use Rattle.std.proofs.Common.{◌≡◌, ℕ, zero, suc, ◌<◌, List, [], ◌∷◌, length, slice_get, Option, Some, None, refl, sym, ap, subst, ◌∙◌, arith}
+use Rattle.std.proofs.Common.{◌≡◌, ℕ, zero, suc, ◌<◌, cond, List, [], ◌∷◌, length, slice_get, Option, Some, None, refl, sym, ap, subst, ◌∙◌, arith}
 use Rattle.vf_tree.specs.Core.{Identity, FunctionTree, ProgramTree}
 use Rattle.vf_model.specs.Values.{Value}
 use Rattle.vf_model.specs.State.{Thread}
@@ -9,18 +9,20 @@ use Rattle.vf_meaning.specs.Valuations.{Valuation, bound}
 use Rattle.vf_meaning.specs.Assertions.{ContractTree, Environment}
 use Rattle.vf_meaning.specs.Sorts.{AreOfSorts, HasSort}
 use Rattle.vf_meaning.specs.Parts.{Part, nothing, IsSum}
-use Rattle.vf_meaning.specs.Kept.{Ensures, with_result}
+use Rattle.vf_meaning.specs.Kept.{IsFixed, Ensures, with_result}
+use Rattle.vf_meaning.proofs.Values.{tells_names}
 use Rattle.vf_rules.specs.Terms.{Term, stored}
 use Rattle.vf_rules.specs.Terms as terms
 use Rattle.vf_rules.specs.States.{SymbolicState, value_in, ChunksMean, StoreMeans, StandsFor, assuming_all}
 use Rattle.vf_rules.specs.Fresh.{symbol, IsNew}
 use Rattle.vf_rules.specs.Types.{IsTypedPart}
 use Rattle.vf_rules.specs.Produce.{Produce}
-use Rattle.vf_rules.specs.Consume.{Consume}
 use Rattle.vf_rules.specs.Laws.{IsAmong}
 use Rattle.vf_rules.specs.Predicates.{store_of}
-use Rattle.vf_rules.specs.Accept.{all_of_it, call_store, pointer_store, parameter_symbols, facts_of_types, facts_of_sorts, facts_of_result, HasContract, AreFixed, KeepsFixed}
-use Rattle.vf_rules.specs.Claims.{before_claim, Refines, AreClaimsKept}
+use Rattle.vf_rules.specs.Accept.{all_of_it, call_store, pointer_store, parameter_symbols, facts_of_types, facts_of_sorts, facts_of_result, HasContract, AreFixed}
+use Rattle.vf_rules.specs.Claims.{before_claim, Ends, StandsIn, Refines, AreClaimsKept}
+use Rattle.vf_rules.specs.Claims as claims
+use Rattle.vf_rules.specs.GhostSteps.{AfterGhostSteps}
 use Rattle.vf_rules.proofs.Terms.{fresh_store, own_symbol, stored_own, stored_other, stored_means}
 use Rattle.vf_rules.proofs.Stands.{meets_more, stands_fresh, assuming_all_stands}
 use Rattle.vf_rules.proofs.Produces.{produced}
@@ -28,10 +30,11 @@ use Rattle.vf_rules.proofs.Consumes.{consumed}
 use Rattle.vf_rules.proofs.Opening.{completed, completed_means, completed_sorted}
 use Rattle.vf_safety.specs.Safe.{Duties, DoneAt, Safe, left_after, returned, IsResult, Continues}
 use Rattle.vf_safety.proofs.Steps.{apart, together, typed_of_left}
-use Rattle.vf_safety.proofs.Typing.{AllMayBe}
-use Rattle.vf_safety.proofs.Ready.{FunctionSafe, TypeSafe, FunctionsSafe, TypesSafe, positive_whole, nothing_left, names_sorted, result_store_sorted}
+use Rattle.vf_safety.proofs.Typing.{AllMayBe, bound_stored, result_sorted}
+use Rattle.vf_safety.proofs.GhostSteps.{reached}
+use Rattle.vf_safety.proofs.Ready.{FunctionSafe, TypeSafe, FunctionsSafe, TypesSafe, positive_whole, nothing_left, names_sorted}
 use Rattle.vf_safety.proofs.CallSteps.{result_or, with_result_means, with_result_sorted, result_value, result_facts, result_bound, sorted_arguments}
-use Rattle.vf_safety.proofs.Returns.{consumed_ensures, result_means, override, override_means, not_result}
+use Rattle.vf_safety.proofs.Returns.{consumed_ensures, result_means, override, override_means}
 use Rattle.vf_safety.proofs.Functions.{row_of, zero_plus, types_met, sorts_met, begins_mean, neutral, symbol_is}
 
 module _ (e : Environment) (p : ProgramTree) (t : ℕ) where
@@ -48,10 +51,10 @@ module _ (e : Environment) (p : ProgramTree) (t : ℕ) where
         chunks_mean = refl;
       }
 
-  -- after the own contract's return the type's postcondition is consumed, and what comes after is safe
+  -- after the own contract's return the type's is ended, and what comes after is safe
   after_own : (f : FunctionTree) (own contract : ContractTree) (duty : Duties) (callers : Thread) (target : Option ℕ) (w : Valuation) (q r : Part) (u : Valuation) (left : Part) (s1 : terms.Store) (st1 : SymbolicState) (y : ℕ) (names : Valuation) → IsNew y all_of_it s1 [] st1 → AreFixed own s1 → StoreMeans e u s1 names
       → Produce e p own.sorts all_of_it own.ensures_this (stored s1 Result (symbol y)) (assuming_all st1 (facts_of_result f.signature.result (symbol y))) (λ s2 st2.
-      Consume e p contract.sorts all_of_it contract.ensures_this (stored st2.names Result (symbol y)) st2 (λ s3 st3. (st3.chunks ≡ []) × KeepsFixed contract st2.names s3))
+      AfterGhostSteps e p (Ends e p contract) (claims.with_result st2 (symbol y)))
       → StandsFor e u st1 [] w left → AreOfSorts e w contract.sorts → (beside0 : Part) → IsSum left r beside0
       → (n j : ℕ) → j < n → Continues e p t duty n callers target f.signature.result contract w r → (result : Option Value) (q2 own2 : Part) → IsResult e p t f.signature.result result → Ensures e own names result q2 → IsTypedPart e p own2 → IsSum q2 beside0 own2
       → DoneAt e (length callers) duty result own2 × Safe e p t (left_after (length callers) duty) j (returned e p t callers target result) own2
@@ -67,21 +70,43 @@ module _ (e : Environment) (p : ProgramTree) (t : ℕ) where
       let inside = together q2 left r beside0 own2 inner sums2 in
       let o = produced e p own.sorts all_of_it whole (ensured.satisfies).0 [] w own.ensures_this (stored s1 Result (symbol y)) (assuming_all st1 (facts_of_result f.signature.result (symbol y))) _ produce v2 (with_result w2 result) q2 left inside.0 stands2 means2
       (with_result_sorted e p t duty f own w2 own.sorts result ensured.sorts) refl positive_whole (ensured.satisfies).1 (typed_of_left e p q2 beside0 own2 sums2 typed2) inside.1 in
-      let symbol_is : (x : Value) → result ≡ Some x → value_in e o.under (symbol y) ≡ x = λ x h. o.means Result (symbol y) (o.grows Result (symbol y) (stored_own s1 Result (symbol y))) ∙ result_bound e p t duty f own w2 result x h in
-      let c = consumed e p contract.sorts all_of_it whole [] w contract.ensures_this (stored (o.state).names Result (symbol y)) o.state _ o.holds o.under inside.0 o.stands
-      (result_store_sorted e o.under contract.sorts (o.state).names (symbol y) (names_sorted e o.under contract.sorts (o.state).names w (o.stands).names_mean of_sorts)) refl in
+      let rv = with_result w2 result Result in
+      let named = bound w Result rv in
+      let stands3 : StandsFor e o.under (claims.with_result o.state (symbol y)) [] named inside.0 = record {
+        path = (o.stands).path;
+        locals_mean = (o.stands).locals_mean;
+        names_mean = bound_stored e o.under (o.state).names w Result (symbol y) rv (o.stands).names_mean (o.means Result (symbol y) (o.grows Result (symbol y) (stored_own s1 Result (symbol y))));
+        chunks_mean = (o.stands).chunks_mean;
+      } in
+      let g = reached e p (Ends e p contract) [] named inside.0 (typed_of_left e p inside.0 r own2 inside.2 typed2) o.holds o.under stands3 in
+      let (z, result_named, consume) = g.holds in
+      let c = consumed e p contract.sorts all_of_it whole [] named contract.ensures_this (g.state).names g.state _ consume g.under inside.0 g.stands
+      (names_sorted e g.under contract.sorts (g.state).names named (g.stands).names_mean (result_sorted e w rv contract.sorts of_sorts)) refl in
       let left_none : c.left ≡ nothing = subst (λ cs. ChunksMean e c.under cs c.left) (c.holds).0 (c.stands).chunks_mean in
       let off_is : c.off ≡ inside.0 = nothing_left c.off c.left inside.0 left_none c.sums in
-      let result_is : c.store Result ≡ Some (symbol y) = c.grows Result (symbol y) (stored_own (o.state).names Result (symbol y)) in
-      let type_ensured = consumed_ensures e p t duty f contract o.under c.under w o.state (stored (o.state).names Result (symbol y)) c.store result c.depth c.off (o.stands).names_mean of_sorts c.sorted (c.holds).1
-      (λ x fix. stored_other (o.state).names Result x (symbol y) (not_result e p t duty f contract x fix)) c.stays
-      (after_means c.under c.store w result (symbol y) result_is (λ x h. c.stays Result (symbol y) (stored_own (o.state).names Result (symbol y)) ∙ symbol_is x h)) c.satisfies in
-      continues j l result c.off own2 typed_result type_ensured typed2 (subst (λ z. IsSum z r own2) (sym off_is) inside.2)
+      let result_is : c.store Result ≡ Some z = c.grows Result z result_named in
+      let result_value_is : (x : Value) → result ≡ Some x → value_in e c.under z ≡ x = λ x h. c.stays Result z result_named ∙ (g.stands).names_mean Result z result_named ∙ bound_own w rv ∙ result_bound e p t duty f own w2 result x h in
+      let type_ensured = consumed_ensures e p t duty f contract g.under c.under named g.state (g.state).names c.store result c.depth c.off (g.stands).names_mean (result_sorted e w rv contract.sorts of_sorts) c.sorted (c.holds).1
+      (λ x fix. refl) c.stays (after_means c.under c.store named result z result_is result_value_is) c.satisfies in
+      continues j l result c.off own2 typed_result (without_result w rv result c.off type_ensured) typed2 (subst (λ z. IsSum z r own2) (sym off_is) inside.2)
     where
       after_means : (u : Valuation) (after : terms.Store) (names : Valuation) (result : Option Value) (z : Term) → after Result ≡ Some z → ((x : Value) → result ≡ Some x → value_in e u z ≡ x)
           → StoreMeans e u after (with_result (override e p t duty f contract u after names) result)
       after_means u after names (Some x) z is value = result_means e p t duty f contract u after names z x is (value x refl)
       after_means u after names None z is value = override_means e p t duty f contract u after names
+
+      bound_own : (w : Valuation) (x : Value) → bound w Result x Result ≡ x
+      bound_own w x = ap (λ b. cond b x (w Result)) ((tells_names Result Result).1 refl)
+
+      -- what the result was named by does not matter, since it is none of the names that a call begins with
+      fixed_same : (w : Valuation) (x : Value) (n : Name) → IsFixed contract n → bound w Result x n ≡ w n
+      fixed_same w x (Numbered k) fix = refl
+      fixed_same w x Result fix = absurd fix
+      fixed_same w x This fix = refl
+      fixed_same w x CurrentThread fix = refl
+
+      without_result : (w : Valuation) (x : Value) (result : Option Value) (off : Part) → Ensures e contract (bound w Result x) result off → Ensures e contract w result off
+      without_result w x result off h = record { later = h.later; fixed = λ n fix. h.fixed n fix ∙ fixed_same w x n fix; sorts = h.sorts; satisfies = h.satisfies }
 
   -- a function is safe for as many steps under the contract of a type that it refines
   refine_safe : (n number : ℕ) (f : FunctionTree) (own contract : ContractTree) (g : Identity) → HasContract e f own → Refines e p f own contract g → FunctionSafe e p t n number f own → TypeSafe e p t n number f contract g
@@ -95,30 +120,21 @@ module _ (e : Environment) (p : ProgramTree) (t : ℕ) where
       w w q nothing q before type_means of_sorts refl positive_whole required.1 (typed_of_left e p q r owned sums typed) (neutral q) in
       let st : SymbolicState = record o.state { names = o.store } in
       let stands : StandsFor e o.under st [] w q = record { path = (o.stands).path; locals_mean = (o.stands).locals_mean; names_mean = o.means; chunks_mean = (o.stands).chunks_mean } in
-      let sorted = sorted_arguments e p t duty f own o.under (o.state).path own.sorts symbols (refines.sorted o.store o.state o.holds) (o.stands).path in
-      let c = consumed e p own.sorts all_of_it whole [] w own.requires_this (call_store symbols) st _ (refines.kept o.store o.state o.holds) o.under q stands sorted refl in
+      let g = reached e p (StandsIn e p f own contract) [] w q (typed_of_left e p q r owned sums typed) (refines.kept o.store o.state o.holds) o.under stands in
+      let (have, of_own_sorts, consume) = g.holds in
+      let sorted = sorted_arguments e p t duty f own g.under (g.state).path own.sorts symbols of_own_sorts (g.stands).path in
+      let c = consumed e p own.sorts all_of_it whole [] w own.requires_this (call_store symbols) g.state _ consume g.under q g.stands sorted refl in
       let (y, fresh, fixed, produce) = c.holds in
       let names = completed e c.under own.sorts has.inhabited c.store in
       let means = completed_means e c.under own.sorts has.inhabited c.store in
       let inner = apart c.off c.left q r owned c.sums sums in
-      let same_name : (x : Name) (z : Term) → call_store symbols x ≡ Some z → names x ≡ w x = λ x z is.
-      let there = stored_other (call_store symbols) This x (Function g) (not_this np x z is) ∙ is in
-      sym (means x z (c.grows x z is)) ∙ c.stays x z is ∙ o.means x z (o.grows x z there) in
+      let same_name : (x : Name) (z : Term) → call_store symbols x ≡ Some z → names x ≡ w x = λ x z is. sym (means x z (c.grows x z is)) ∙ c.stays x z is ∙ (g.stands).names_mean x z (have x z is) in
       let number_is : (j : ℕ) (a : Value) → slice_get arguments j ≡ Some a → names (Numbered j) ≡ a = λ j a is. let z = symbol_there np j (shorter arguments j a np count is) in same_name (Numbered j) (symbol j) z ∙ begins j a is in
       safe duty arguments names callers target c.off inner.0 owned (count ∙ sym has.parameters) may number_is
       (same_name CurrentThread (Variable CurrentThread) (stored_own (store_of symbols) CurrentThread (Variable CurrentThread)) ∙ thread)
       (completed_sorted e c.under own.sorts has.inhabited c.store c.sorted) (c.depth, c.satisfies names means) typed inner.2
       (λ j l result q2 own2 typed_result ensured typed2 sums2. after_own f own contract duty callers target w q r c.under c.left c.store c.state y names fresh fixed means produce c.stands of_sorts inner.0 inner.1 n j l continues result q2 own2 typed_result ensured typed2 sums2)
     where
-      not_this : (np : ℕ) (x : Name) (z : Term) → call_store (parameter_symbols np) x ≡ Some z → x ≡ This → ⊥
-      not_this np x z is same = none_some (sym (stored_other (store_of (parameter_symbols np)) CurrentThread This (Variable CurrentThread) (λ h. clash h)) ∙ subst (λ y. call_store (parameter_symbols np) y ≡ Some z) same is)
-        where
-          none_some : {A B : Type 0} {x : A} → None ≡ Some x → B
-          none_some e = cc
-
-          clash : This ≡ CurrentThread → ⊥
-          clash h = cc
-
       shorter : (ws : List Value) (j : ℕ) (a : Value) (np : ℕ) → length ws ≡ np → slice_get ws j ≡ Some a → j < np
       shorter [] j a np long is = none_some is
         where

@@ -27,9 +27,10 @@ use Rattle.vf_rules.proofs.Terms.{stored_own, stored_other}
 use Rattle.vf_rules.proofs.Consumes.{consumed}
 use Rattle.vf_rules.proofs.Opening.{completed, completed_means, completed_sorted}
 use Rattle.vf_safety.specs.Safe.{Duty, Duties, Within, DoneAt, DutiesChange, Safe}
-use Rattle.vf_safety.specs.Laws.{AreOfTypes, MayCall, before_main, IsAcceptedProgram, AcceptedProgramsAreSafe}
+use Rattle.vf_safety.specs.Laws.{AreOfTypes, MayCall, before_main, Begins, IsAcceptedProgram, AcceptedProgramsAreSafe}
 use Rattle.vf_safety.proofs.Duties.{IsIn, first_within}
 use Rattle.vf_safety.proofs.Steps.{nothing_typed}
+use Rattle.vf_safety.proofs.GhostSteps.{reached}
 use Rattle.vf_safety.proofs.Ready.{nothing_left}
 use Rattle.vf_safety.proofs.Functions.{begins_mean}
 use Rattle.vf_safety.proofs.AllSafe.{accepted_threads_are_safe}
@@ -65,7 +66,9 @@ unfolding all_noughts
 begun e p a =
     let v = all_noughts in
     let stands : StandsFor e v before_main [] v nothing = record { path = tt; locals_mean = tt; names_mean = begins_mean e v 0; chunks_mean = refl } in
-    let c = consumed e p (a.contract).sorts all_of_it whole [] v (a.contract).requires_this (call_store []) before_main (λ s st. st.chunks ≡ []) a.begins v nothing stands (no_names e v (a.contract).sorts) refl in
+    let g = reached e p (Begins e p a.contract) [] v nothing (nothing_typed e p) a.begins v stands in
+    let (have, consume) = g.holds in
+    let c = consumed e p (a.contract).sorts all_of_it whole [] v (a.contract).requires_this (call_store []) g.state (λ s st. st.chunks ≡ []) consume g.under nothing g.stands (no_names e g.under (a.contract).sorts) refl in
     let left_none : c.left ≡ nothing = subst (λ cs. ChunksMean e c.under cs c.left) c.holds (c.stands).chunks_mean in
     let off_is = nothing_left c.off c.left nothing left_none c.sums in
     let names = completed e c.under (a.contract).sorts (a.has).inhabited c.store in
@@ -73,7 +76,7 @@ begun e p a =
     let own = stored_own (store_of []) CurrentThread (Variable CurrentThread) in
     record {
       names = names;
-      thread = sym (means CurrentThread (Variable CurrentThread) (c.grows CurrentThread (Variable CurrentThread) own)) ∙ c.stays CurrentThread (Variable CurrentThread) own;
+      thread = sym (means CurrentThread (Variable CurrentThread) (c.grows CurrentThread (Variable CurrentThread) own)) ∙ c.stays CurrentThread (Variable CurrentThread) own ∙ (g.stands).names_mean CurrentThread (Variable CurrentThread) (have CurrentThread (Variable CurrentThread) own);
       of_sorts = completed_sorted e c.under (a.contract).sorts (a.has).inhabited c.store c.sorted;
       required = subst (Satisfies e whole (a.contract).requires_this names) off_is (c.depth, c.satisfies names means);
     }

@@ -17,6 +17,7 @@ use Rattle.vf_rules.specs.Types.{IsOfType, IsTypedPart}
 use Rattle.vf_rules.specs.States.{SymbolicState}
 use Rattle.vf_rules.specs.Consume.{Consume}
 use Rattle.vf_rules.specs.Accept.{all_of_it, call_store, HasContract, IsAcceptedFunction}
+use Rattle.vf_rules.specs.GhostSteps.{AfterGhostSteps, NamesHave}
 use Rattle.vf_rules.specs.Claims.{AreClaimsKept}
 use Rattle.vf_safety.specs.Safe.{Duties, Safe, Continues}
 
@@ -61,7 +62,11 @@ AcceptedThreadsAreSafe =
 abbrev pub before_main : SymbolicState
 before_main = record { locals = []; names = call_store []; chunks = []; path = [] }
 
--- A program is accepted: each of its functions that has a contract is, and keeps the contracts of the types that it claims; main has one and no parameters, and its precondition is consumed from nothing
+-- main may begin in a state: its precondition is consumed, and nothing is left
+abbrev pub Begins : Environment → ProgramTree → ContractTree → SymbolicState → Type 0
+Begins e p contract st = NamesHave [] st × Consume e p contract.sorts all_of_it contract.requires_this (call_store []) st (λ s st1. st1.chunks ≡ [])
+
+-- A program is accepted: each of its functions that has a contract is, and keeps the contracts of the types that it claims; main has one and no parameters, and after ghost steps from nothing it may begin
 pub record IsAcceptedProgram (e : Environment) (p : ProgramTree) : Type 0 where
   pub functions : AreAccepted e p
   pub claims : AreClaimsKept e p
@@ -70,7 +75,7 @@ pub record IsAcceptedProgram (e : Environment) (p : ProgramTree) : Type 0 where
   pub contract : ContractTree
   pub has : HasContract e main contract
   pub alone : main.signature.parameters ≡ []
-  pub begins : Consume e p contract.sorts all_of_it contract.requires_this (call_store []) before_main (λ s st. st.chunks ≡ [])
+  pub begins : AfterGhostSteps e p (Begins e p contract) before_main
 
 -- every list of events of an accepted program is safe, and keeps what the program owes
 abbrev pub AcceptedProgramsAreSafe : Type 0

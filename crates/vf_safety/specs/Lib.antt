@@ -1,4 +1,5 @@
 pub mod Safe
 pub mod Laws
+pub mod GhostLaws
 pub mod ArrayLaws
 pub mod LeakLaws
