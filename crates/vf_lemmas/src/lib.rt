@@ -3,9 +3,9 @@
 //! The definitions stand in `specs/`; the code here is public functions with an empty body, each of
 //! which has a law as its contract.
 //!
-//! In `specs/`: when the body of a lemma is accepted: annotations alone, and calls of lemmas that stand earlier or
-//! for which one of three measures falls (whole cells, the size of a value, the depth of the precondition's first
-//! part). Laws: `accepted_lemmas_hold` (each accepted lemma gives, from every part that satisfies its precondition, a
+//! In `specs/`: when the body of a lemma is accepted: annotations alone, and calls of lemmas that hold otherwise (as
+//! those on rows of int cells do), that stand earlier, or for which one of three measures falls (whole cells, the size
+//! of a value, the depth of the precondition's first part). Laws: `accepted_lemmas_hold` (each accepted lemma gives, from every part that satisfies its precondition, a
 //! part not greater that satisfies its postcondition; the rest is leaked, and is nothing where it does not leak),
 //! `calling_keeps`, `components_are_smaller`, `opening_goes_lower`, `asserting_is_proved`.
 #![tactic(auto)]
