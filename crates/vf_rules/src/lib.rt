@@ -3,8 +3,8 @@
 //! The definitions stand in `specs/`, over those of the machine and of assertions; the code here is
 //! public functions with an empty body, each of which has a law as its contract.
 //!
-//! In `specs/`: terms, symbolic states and what they stand for, producing and consuming every form of assertion,
-//! taking, joining and renaming chunks, opening and closing predicates, evaluating, loops with invariants, claims of
+//! In `specs/`: terms, symbolic states and what they stand for, producing and consuming every form of assertion (with a
+//! row of int cells it is known at once that its length is not negative), taking, joining and renaming chunks, opening and closing predicates, evaluating, loops with invariants, claims of
 //! function types, and when a body is accepted: one rule for each core step, with arrays of int (`specs/Arrays`), and
 //! the prelude's calls that concern mutexes and threads by their contracts (`specs/Mutexes`, `specs/Threads`); and
 //! rules for what annotations do between steps: leaks, what a state shows, case splits, switches over values, opening
