@@ -18,3 +18,5 @@ pub mod EverythingMain
 pub mod Unsafe
 pub mod NoLeaks
 pub mod Leaving
+pub mod ArraySplit
+pub mod ArrayElements

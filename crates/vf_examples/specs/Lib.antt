@@ -9,3 +9,4 @@ pub mod Everything
 pub mod Refused
 pub mod NoLeaks
 pub mod Leaving
+pub mod ArrayCalls

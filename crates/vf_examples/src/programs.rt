@@ -1,5 +1,6 @@
 //! Programs that are accepted, and programs that are refused. Each function does nothing; its contract is the example.
 
+ghost use Rattle.vf_examples.specs.ArrayCalls.{ElementsAreAccepted};
 ghost use Rattle.vf_examples.specs.BoxProgram.{BoxIsAccepted};
 ghost use Rattle.vf_examples.specs.Counting.{CountingIsAccepted};
 ghost use Rattle.vf_examples.specs.Everything.{EverythingIsAccepted};
@@ -36,4 +37,9 @@ pub fn examples_leak_nothing()
 /// A program that leaks the struct that it allocates is accepted where a leak stands, and is not where none does.
 pub fn leaving_is_accepted()
     ensures { LeavingIsAccepted }
+{}
+
+/// A function that returns `a[i]` and one that sets it are accepted, with what `ints_nth` and `ints_set` give.
+pub fn elements_are_accepted()
+    ensures { ElementsAreAccepted }
 {}
