@@ -16,9 +16,9 @@ use Rattle.vf_meaning.specs.Chunks.{list_of}
 use Rattle.vf_meaning.proofs.Ordered.{listed_fixpoints_meet_equations}
 use Rattle.vf_rules.proofs.Takes.{removes_parted}
 use Rattle.vf_rules.proofs.RowLengths.{length_met}
-use Rattle.vf_safety.specs.ArrayLaws.{take_name, drop_name, append_name}
-use Rattle.vf_safety.specs.ElementLaws.{nth_name, set_name, nth_fixpoint, set_fixpoint, DeclaresElements, ItemsAreNth, WrittenListsAreSet, OneItemIsAList, NilIsEmpty, ListsAreCut, ListsAreAppended, LengthsAreLess, LengthsAreMore, RowsShowLengths}
-use Rattle.vf_safety.proofs.Elements.{row_owned_of}
+use Rattle.vf_safety.specs.ArrayLaws.{take_name, drop_name, append_name, apply}
+use Rattle.vf_safety.specs.ElementLaws.{nth_name, set_name, nth_fixpoint, set_fixpoint, DeclaresElements, ItemsAreNth, WrittenListsAreSet, CellsHoldNth, WrittenCellsAreSet, OneItemIsAList, NilIsEmpty, ListsAreCut, ListsAreAppended, LengthsAreLess, LengthsAreMore, RowsShowLengths}
+use Rattle.vf_safety.proofs.Elements.{row_owned_of, item_there, map_set}
 use Rattle.vf_safety.proofs.ListFixpoints.{at_two, takes, drops, appends}
 
 some_same : {A : Type 0} {x y : A} → Some x ≡ Some y → x ≡ y
@@ -85,6 +85,13 @@ written_lists_are_set e elements path list index item = record {
 
 pub one_item_is_a_list : OneItemIsAList
 one_item_is_a_list e path item = record { by = λ v m z item_is. ap (λ w. values.Constructed (codes "<vf_arrays.h>#ints_cons") (more w (more (list_of []) none))) item_is }
+
+pub cells_hold_nth : CellsHoldNth
+cells_hold_nth e elements v list index cells k held meets index_is there = item_there e v [] list index (apply nth_name list index) cells k held (items_are_nth e elements [] list index) tt meets index_is there
+
+pub written_cells_are_set : WrittenCellsAreSet
+written_cells_are_set e elements v list index item cells k z (zs, list_is, cells_are) index_is item_is =
+    (slice_set zs k z, (written_lists_are_set e elements [] list index item).by v tt zs k z list_is index_is item_is, ap (λ r. slice_set r k (Some (values.Number z))) cells_are ∙ map_set zs k z)
 
 pub nil_is_empty : NilIsEmpty
 nil_is_empty e path = record { by = λ v m. refl }

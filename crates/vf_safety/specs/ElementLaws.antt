@@ -1,11 +1,15 @@
 -- What is read and written at an index of a row of int cells, and what its numbers and its length are where it is split or joined, as terms. Each law is the contract of a public function with an empty body.
-use Rattle.std.specs.Prelude.{◌≡◌, ℕ, pos, List, [], ◌∷◌, Contains, Option, Some, codes}
+use Rattle.std.specs.Prelude.{◌≡◌, ℕ, ℤ, pos, List, [], ◌∷◌, Contains, slice_get, slice_set, Option, Some, codes}
 use Rattle.vf_tree.specs.Core.{Identity, Add, Subtract, Equal, LessEqual}
+use Rattle.vf_model.specs.Values.{Value}
+use Rattle.vf_model.specs.Values as values
 use Rattle.vf_meaning.specs.Ghost.{Integers, Numbered, GhostExpression, no_expressions, and_expression, Number, Apply, Arithmetic, Compare, Choose, FixpointTree, Switches}
+use Rattle.vf_meaning.specs.Valuations.{Valuation}
 use Rattle.vf_meaning.specs.Assertions.{Environment}
+use Rattle.vf_meaning.specs.Chunks.{Just, RowMeets}
 use Rattle.vf_meaning.specs.Structural.{AreOrdered}
 use Rattle.vf_rules.specs.Terms.{Term}
-use Rattle.vf_rules.specs.States.{Fact, Holds, OfSort, SymbolicChunk, SymbolicState, Shows}
+use Rattle.vf_rules.specs.States.{Fact, Holds, OfSort, SymbolicChunk, SymbolicState, value_in, Shows}
 use Rattle.vf_rules.specs.Take.{Removes}
 use Rattle.vf_rules.specs.Mutexes.{name}
 use Rattle.vf_rules.specs.Arrays.{row_head, IsItem, IsListSet, IsListOfOne, IsNil, IsRest, IsTotal, IsListSplit, IsListJoined}
@@ -66,6 +70,18 @@ WrittenListsAreSet = (e : Environment) → DeclaresElements e → (path : List F
 -- on every path the list of just one number is cons of it and nil, so that a write to a row of one cell leaves it
 abbrev pub OneItemIsAList : Type 0
 OneItemIsAList = (e : Environment) (path : List Fact) (item : Term) → IsListOfOne e path item (cons item nil)
+
+-- in cells of which a list is known, as those of `ints(p, n, list)` are, the one at an index holds what `ints_nth` gives
+abbrev pub CellsHoldNth : Type 0
+CellsHoldNth =
+    (e : Environment) → DeclaresElements e → (v : Valuation) (list index : Term) (cells : List (Option Value)) (k : ℕ) (held : Option Value) → RowMeets (Just (value_in e v list)) cells → value_in e v index ≡ values.Number (pos k) → slice_get cells k ≡ Some held
+    → held ≡ Some (value_in e v (apply nth_name list index))
+
+-- and with a number in the cell at an index they are those of what `ints_set` gives
+abbrev pub WrittenCellsAreSet : Type 0
+WrittenCellsAreSet =
+    (e : Environment) → DeclaresElements e → (v : Valuation) (list index item : Term) (cells : List (Option Value)) (k : ℕ) (z : ℤ) → RowMeets (Just (value_in e v list)) cells → value_in e v index ≡ values.Number (pos k) → value_in e v item ≡ values.Number z
+    → RowMeets (Just (value_in e v (apply_three set_name list index item))) (slice_set cells k (Some (values.Number z)))
 
 -- ---- rows that are made, split and joined
 -- on every path nil has no numbers

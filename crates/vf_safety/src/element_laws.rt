@@ -2,6 +2,7 @@
 //! function does nothing; its contract is the law.
 
 ghost use Rattle.vf_safety.specs.ElementLaws.{
+  CellsHoldNth,
   ElementsAreInOrder,
   ItemsAreNth,
   LengthsAreLess,
@@ -11,6 +12,7 @@ ghost use Rattle.vf_safety.specs.ElementLaws.{
   NilIsEmpty,
   OneItemIsAList,
   RowsShowLengths,
+  WrittenCellsAreSet,
   WrittenListsAreSet,
 };
 
@@ -27,6 +29,16 @@ pub fn written_lists_are_set()
 /// What a write to a row of one cell leaves is a list of one number.
 pub fn one_item_is_a_list()
     ensures { OneItemIsAList }
+{}
+
+/// The cell at an index of a row of numbers holds what `ints_nth` gives.
+pub fn cells_hold_nth()
+    ensures { CellsHoldNth }
+{}
+
+/// A row of numbers with another number in the cell at an index is one of what `ints_set` gives.
+pub fn written_cells_are_set()
+    ensures { WrittenCellsAreSet }
 {}
 
 /// `ints_nil` has no numbers.
