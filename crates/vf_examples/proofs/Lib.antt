@@ -20,3 +20,4 @@ pub mod NoLeaks
 pub mod Leaving
 pub mod ArraySplit
 pub mod ArrayElements
+pub mod Halved

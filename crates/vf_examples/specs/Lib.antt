@@ -2,6 +2,7 @@ pub mod HeldMutex
 pub mod KeptCalls
 pub mod TwoLemmas
 pub mod Nesting
+pub mod Halving
 pub mod BoxProgram
 pub mod Counting
 pub mod Sharing

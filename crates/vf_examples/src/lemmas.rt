@@ -1,6 +1,7 @@
 //! Lemmas that are accepted. Each function does nothing; its contract is the example.
 
 ghost use Rattle.vf_examples.specs.ArrayCalls.{SplittingIsAccepted};
+ghost use Rattle.vf_examples.specs.Halving.{HalvingIsAccepted};
 ghost use Rattle.vf_examples.specs.Nesting.{NestingIsAccepted};
 ghost use Rattle.vf_examples.specs.TwoLemmas.{LemmasAreAccepted};
 
@@ -18,4 +19,10 @@ pub fn nesting_is_accepted()
 /// is produced.
 pub fn splitting_is_accepted()
     ensures { SplittingIsAccepted }
+{}
+
+/// A lemma is accepted that opens its precondition's first part in two halves, one later than the other, and calls
+/// itself with what is inside of each.
+pub fn halving_is_accepted()
+    ensures { HalvingIsAccepted }
 {}
