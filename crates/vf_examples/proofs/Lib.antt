@@ -23,3 +23,6 @@ pub mod ClaimedRow
 pub mod ClaimedAccount
 pub mod ClaimedChoice
 pub mod ClaimingMain
+pub mod ArraySplit
+pub mod ArrayElements
+pub mod Halved

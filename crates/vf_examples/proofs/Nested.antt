@@ -50,10 +50,10 @@ lemmas = not_negative ∷ []
 abbrev names : Store
 names = call_store (symbol 0 ∷ [])
 
-abbrev zero_term : Term
+abbrev pub zero_term : Term
 zero_term = Compare Equal (symbol 0) (Number (pos 0))
 
-abbrev less_term : Term
+abbrev pub less_term : Term
 less_term = Arithmetic Subtract (symbol 0) (Number (pos 1))
 
 abbrev begun : SymbolicState
@@ -105,11 +105,11 @@ none_or_first s t there x (inl never) = absurd never
 none_or_first s t there x (inr is) = (t, subst (λ z. s z ≡ Some t) is there)
 
 -- ---- what paths entail
-not_both : (b : Bool) → b ≡ true → not b ≡ true → ⊥
+pub not_both : (b : Bool) → b ≡ true → not b ≡ true → ⊥
 not_both true h k = cc
 not_both false h k = cc
 
-zero_least : (x : Value) → is_same x (values.Number (pos 0)) ≡ true → IsTrue (int_le (pos 0) (values.number_of x))
+pub zero_least : (x : Value) → is_same x (values.Number (pos 0)) ≡ true → IsTrue (int_le (pos 0) (values.number_of x))
 zero_least (values.Number z) h = grind (arith, ints)
 zero_least (values.Truth b) h = refl
 zero_least values.Null h = refl
@@ -119,10 +119,10 @@ zero_least (values.Constructed c vs) h = refl
 zero_least (values.Predicate q vs) h = refl
 zero_least (values.Fraction d) h = refl
 
-one_more : (z : ℤ) → IsTrue (int_le (pos 0) (computed Subtract z (pos 1))) → IsTrue (int_le (pos 0) z)
+pub one_more : (z : ℤ) → IsTrue (int_le (pos 0) (computed Subtract z (pos 1))) → IsTrue (int_le (pos 0) z)
 one_more z h = grind (arith, ints)
 
-abbrev not_below : Fact
+abbrev pub not_below : Fact
 not_below = Holds (Compare LessEqual (Number (pos 0)) (symbol 0))
 
 zero_not_below : Entails nesting opened.path not_below
@@ -132,11 +132,11 @@ more_not_below : Entails nesting after_call.path not_below
 more_not_below = record { by = λ v m. one_more (values.number_of (v (Numbered 0))) ((m.1).1).0 }
 
 -- ---- the first part is opened
-negated : (b : Bool) → not b ≡ true → b ≡ false
+pub negated : (b : Bool) → not b ≡ true → b ≡ false
 negated true h = cc
 negated false h = refl
 
-nothing_in : (x : Name) → Contains [] x → ⊥
+pub nothing_in : (x : Name) → Contains [] x → ⊥
 nothing_in x h = omega (arith, h.1)
 
 agree_on_rest : (v w : Valuation) → v (Numbered 0) ≡ w (Numbered 0) → (x : Name) → UsesIn (is_nested one_less) x → v x ≡ w x
@@ -146,7 +146,7 @@ agree_on_rest v w is x (inr (inr (inl (inl same)))) = subst (λ z. v z ≡ w z) 
 agree_on_rest v w is x (inr (inr (inl (inr never)))) = absurd never
 agree_on_rest v w is x (inr (inr (inr never))) = absurd never
 
-refused : (b : Bool) (A B : Type 0) → b ≡ false → MatchBool b A B → B
+pub refused : (b : Bool) (A B : Type 0) → b ≡ false → MatchBool b A B → B
 refused b A B h k = subst (λ z. MatchBool z A B) h k
 
 integer_sorted : (w : Valuation) → HasSort nesting (w (Numbered 0)) Integers → AreOfSorts nesting w (Integers ∷ [])

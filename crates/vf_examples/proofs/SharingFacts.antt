@@ -58,7 +58,7 @@ by_place e path k f is = record { by = λ v m. met_at e v path k f is m }
 pub guarded_sorted : (e : Environment) → HasGuarded e → (path : List Fact) (t : Term) → Entails e path (OfSort t Pointers) → Entails e path (OfSort (PredicateValue guarded_name (and_expression t no_expressions)) invariants)
 guarded_sorted e is_guarded path t h = record { by = λ v m. (Pointers ∷ [], is_guarded, refl, (h.by v m, tt)) }
 
-fraction_same : {x y : Dyadic} → values.Fraction x ≡ values.Fraction y → x ≡ y
+pub fraction_same : {x y : Dyadic} → values.Fraction x ≡ values.Fraction y → x ≡ y
 fraction_same h = cc
 
 -- a share of one half

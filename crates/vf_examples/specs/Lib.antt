@@ -2,6 +2,7 @@ pub mod HeldMutex
 pub mod KeptCalls
 pub mod TwoLemmas
 pub mod Nesting
+pub mod Halving
 pub mod BoxProgram
 pub mod Counting
 pub mod Sharing
@@ -10,3 +11,4 @@ pub mod Refused
 pub mod NoLeaks
 pub mod Leaving
 pub mod Claiming
+pub mod ArrayCalls

@@ -5,12 +5,14 @@
 //! has an example as its contract.
 //!
 //! Of meaning: `held_mutex_is_meant`, `calls_are_kept` (a call through a pointer and a thread); of lemmas:
-//! `lemmas_are_accepted`, `nesting_is_accepted` (by depth); of programs: `box_is_accepted`, `counting_is_accepted` (a
-//! loop and a call through a pointer), `everything_is_accepted` (a loop, a heap, a recursive predicate, a mutex and
-//! two threads in one), `claiming_is_accepted` (three functions that keep the contracts of types which they claim, by
-//! what a chunk shows, a name for what is left open, and a case split), `unsafe_are_refused` (a program that comes to a
-//! fault and one that comes to a race are accepted in no environment), `examples_leak_nothing`, `leaving_is_accepted`
-//! (a program with a leak).
+//! `lemmas_are_accepted`, `nesting_is_accepted` (by depth), `halving_is_accepted` (by depth, in two shares),
+//! `splitting_is_accepted` (a call of `ints_split`); of programs: `box_is_accepted`, `elements_are_accepted` (an array
+//! read and written at an index), `counting_is_accepted` (a loop and a call through a pointer),
+//! `everything_is_accepted` (a loop, a heap, a recursive predicate, a mutex and two threads in one),
+//! `claiming_is_accepted` (three functions that keep the contracts of types which they claim, by what a chunk shows, a
+//! name for what is left open, and a case split), `unsafe_are_refused` (a program that comes to a fault and one that
+//! comes to a race are accepted in no environment), `examples_leak_nothing`, `leaving_is_accepted` (a program with a
+//! leak).
 #![tactic(auto)]
 
 mod instances;
@@ -18,8 +20,10 @@ mod lemmas;
 mod programs;
 
 pub use instances::{calls_are_kept, held_mutex_is_meant};
-pub use lemmas::{lemmas_are_accepted, nesting_is_accepted};
+pub use lemmas::{
+    halving_is_accepted, lemmas_are_accepted, nesting_is_accepted, splitting_is_accepted,
+};
 pub use programs::{
-    box_is_accepted, claiming_is_accepted, counting_is_accepted, everything_is_accepted,
-    examples_leak_nothing, leaving_is_accepted, unsafe_are_refused,
+    box_is_accepted, claiming_is_accepted, counting_is_accepted, elements_are_accepted,
+    everything_is_accepted, examples_leak_nothing, leaving_is_accepted, unsafe_are_refused,
 };

@@ -1,5 +1,6 @@
 //! Programs that are accepted, and programs that are refused. Each function does nothing; its contract is the example.
 
+ghost use Rattle.vf_examples.specs.ArrayCalls.{ElementsAreAccepted};
 ghost use Rattle.vf_examples.specs.BoxProgram.{BoxIsAccepted};
 ghost use Rattle.vf_examples.specs.Claiming.{ClaimingIsAccepted};
 ghost use Rattle.vf_examples.specs.Counting.{CountingIsAccepted};
@@ -44,4 +45,9 @@ pub fn leaving_is_accepted()
 /// of the type's another cell.
 pub fn claiming_is_accepted()
     ensures { ClaimingIsAccepted }
+{}
+
+/// A function that returns `a[i]` and one that sets it are accepted, with what `ints_nth` and `ints_set` give.
+pub fn elements_are_accepted()
+    ensures { ElementsAreAccepted }
 {}

@@ -1,5 +1,5 @@
 -- What stands round the part that a state of a lemma's body stands for, and what falls where a lemma calls itself.
-use Rattle.std.proofs.Common.{◌≡◌, ℕ, ◌<◌, List, ◌++◌, Some, None, refl, sym, subst, ◌∙◌}
+use Rattle.std.proofs.Common.{◌≡◌, ℕ, ◌<◌, List, ◌∷◌, ◌++◌, Some, None, refl, sym, subst, ◌∙◌}
 use Rattle.std.specs.Prelude.{Contains}
 use Rattle.vf_tree.specs.Core.{ProgramTree}
 use Rattle.vf_meaning.specs.Ghost.{Name, Numbered}
@@ -7,7 +7,7 @@ use Rattle.vf_meaning.specs.Valuations.{Valuation, size}
 use Rattle.vf_meaning.specs.Assertions.{Assertion, ContractTree, Environment}
 use Rattle.vf_meaning.specs.Sorts.{HasSort, AreOfSorts}
 use Rattle.vf_meaning.specs.Parts.{Part, IsSum}
-use Rattle.vf_meaning.specs.Satisfaction.{Satisfies}
+use Rattle.vf_meaning.specs.Satisfaction.{SatisfiesAt, Satisfies}
 use Rattle.vf_meaning.specs.Fractions.{whole}
 use Rattle.vf_meaning.specs.Kept.{IsFixed}
 use Rattle.vf_meaning.proofs.Parts.{sums_turn, sums_regroup}
@@ -81,6 +81,25 @@ module _ (e : Environment) (p : ProgramTree) (own : LemmaTree) where
         sums = both;
         means = o.means;
         around = record { fixed = a.fixed; of_sorts = a.of_sorts; aside = o.left; sums = sums_turn o.left now q all; asides_mean = o.others_mean; typed = a.typed; mass = a.mass };
+      }
+
+  -- what is set aside is split
+  pub split_around : (names : Valuation) (b : Aside) (first second : Assertion) {asides others : List Aside} → TakesAside b asides others → (w : Valuation) (n m : ℕ) (part q : Part)
+      → ((j : ℕ) (off : Part) → SatisfiesAt e j whole b.assertion names off → (r : Part) × (s : Part) × IsSum r s off × SatisfiesAt e j whole first names r × SatisfiesAt e j whole second names s)
+      → Around names asides w n m part q → Around names (record { inside = b.inside; assertion = first } ∷ record { inside = b.inside; assertion = second } ∷ others) w n m part q
+  split_around names b first second t w n m part q splits a =
+      let o = taken_out e names n b t a.aside a.asides_mean in
+      let j = (o.means).0 in
+      let (r, s, parted, one, two) = splits j o.off (o.means).2 in
+      let (more, both, all) = sums_regroup r s o.off o.left a.aside parted o.sums in
+      record {
+        fixed = a.fixed;
+        of_sorts = a.of_sorts;
+        aside = a.aside;
+        sums = a.sums;
+        asides_mean = (r, more, all, (j, (o.means).1, one), (s, o.left, both, (j, (o.means).1, two), o.others_mean));
+        typed = a.typed;
+        mass = a.mass;
       }
 
   -- names that are not new have the values that they had

@@ -29,13 +29,13 @@ use Rattle.vf_rules.proofs.Opening.{opening_keeps, closing_keeps, still_mean, co
 use Rattle.vf_rules.proofs.Loops.{store_sorted}
 use Rattle.vf_rules.specs.Lemmas.{OnArgument, LemmaTree, Gives}
 use Rattle.vf_lemmas.specs.Depths.{rest_of, Aside}
-use Rattle.vf_lemmas.specs.Proves.{MayCall, earlier, whole_cell_left, smaller_argument, Proves, may_end, may_drop, may_change, may_open, may_close, may_see, may_split, may_know, may_leak, may_call, may_put_back, may_open_aside, may_call_inside}
+use Rattle.vf_lemmas.specs.Proves.{MayCall, earlier, whole_cell_left, smaller_argument, Proves, may_end, may_drop, may_change, may_open, may_close, may_see, may_split, may_know, may_leak, may_call, may_call_held, may_put_back, may_split_aside, may_open_aside, may_call_inside}
 use Rattle.vf_lemmas.proofs.Ends.{end_gives}
 use Rattle.vf_lemmas.proofs.Masses.{HasMass, mass_left, mass_falls}
 use Rattle.vf_lemmas.proofs.Cells.{whole_cell}
-use Rattle.vf_rules.proofs.LemmaCalls.{sorted_arguments}
+use Rattle.vf_rules.proofs.LemmaCalls.{sorted_arguments, lemma_called}
 use Rattle.vf_lemmas.proofs.Asides.{only_left, FirstAt, first_back, IsBelow, AsideMeans, less_below}
-use Rattle.vf_lemmas.proofs.Around.{HasFall, Around, part_typed, with_less, back, still_named, opened_around}
+use Rattle.vf_lemmas.proofs.Around.{HasFall, Around, part_typed, with_less, back, split_around, still_named, opened_around}
 
 positive_whole : IsPositive whole
 positive_whole = omega arith
@@ -179,11 +179,17 @@ module _ (e : Environment) (p : ProgramTree) (lemmas : List LemmaTree) (own : Le
       let g = usable number callee is under c.off (completed_sorted e c.under callee.contract.sorts inhabited c.store c.sorted) (typed_left e p c.off c.left part c.sums typed) (c.depth, c.satisfies under means)
       (lower_call v c.under w names under st c.state ts part c.off c.left n m number stands c.stands c.sums (mass_left m part around.aside q around.sums around.mass) around.fixed sized value_is (c.holds).0) in
       after_call callee outs leaks asides w names n m (λ s su among v2 part2 q2 around2 stands2. body_gives (go s su among) here w n m sized usable v2 names part2 q2 around2 stands2) c.under under c.store c.state c.off c.left part q c.sums around (c.holds).1 means (c.holds).2 c.stands g
+  body_gives {asides} {st} (may_call_held lemma ts outs holds leaks inhabited long sorted consume go) here w n m sized usable v names part q around stands =
+      let o = lemma_called e p lemma ts outs st holds inhabited sorted consume [] names v part stands (part_typed e p own names asides w n m part q around) in
+      let (less, gone, rest) = with_less e p own names asides w n m o.leaked o.left part q o.sums around in
+      with_leaked e own w less o.leaked q (sums_turn o.leaked less q gone) (λ h. o.unleaked (false_by lemma.leaks own.leaks leaks h)) (body_gives (go o.store o.state o.holds) here w n m sized usable o.under names o.left less rest o.stands)
   body_gives {asides} {st} (may_put_back {others = others} b outs taken produce go) here w n m sized usable v names part q around stands =
       let k = back e p own names b taken w n m part q around in
       let typed_now = part_typed e p own names others w n m k.now q k.around in
       let o = produced e p own.contract.sorts all_of_it whole (k.means).0 [] names b.assertion st.names st (IsAmong outs) produce v names k.off part k.now stands stands.names_mean around.of_sorts refl positive_whole (k.means).2 (typed_left e p k.off part k.now k.sums typed_now) k.sums in
       body_gives (go o.store o.state o.holds) here w n m sized usable o.under names k.now q k.around (renamed o.under names o.store o.state k.now o.means o.stands)
+  body_gives {asides} {st} (may_split_aside b first second taken splits go) here w n m sized usable v names part q around stands =
+      body_gives go here w n m sized usable v names part q (split_around e p own names b first second taken w n m part q (λ j off h. splits.by v stands.path names stands.names_mean j off h) around) stands
   body_gives {asides} {st} (may_open_aside {others = others} b sorts new inner rest outs taken fresh free opens produce go) here w n m sized usable v names part q around stands =
       let k = back e p own names b taken w n m part q around in
       let (j, l, i) = opens.by v stands.path names stands.names_mean (k.means).0 k.off (k.means).2 in

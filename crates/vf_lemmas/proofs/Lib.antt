@@ -9,3 +9,4 @@ pub mod Calls
 pub mod Bodies
 pub mod Accepted
 pub mod Openings
+pub mod Shares

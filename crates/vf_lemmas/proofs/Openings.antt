@@ -21,7 +21,7 @@ none_some : {A B : Type 0} {x : A} → None ≡ Some x → B
 none_some e = cc
 
 -- values that are as arguments ask are the arguments' values
-argument_value : (i : Interpretation) (w : Valuation) (xs : List GhostExpression) (vs : Values) → AllMeet (map (wanted i w) (map Is xs)) (listed vs) → (k : ℕ) (x : GhostExpression) → slice_get xs k ≡ Some x → (k < count vs) × (value_at vs k ≡ value_of i w x)
+pub argument_value : (i : Interpretation) (w : Valuation) (xs : List GhostExpression) (vs : Values) → AllMeet (map (wanted i w) (map Is xs)) (listed vs) → (k : ℕ) (x : GhostExpression) → slice_get xs k ≡ Some x → (k < count vs) × (value_at vs k ≡ value_of i w x)
 argument_value i w [] vs meet k x is = none_some is
 argument_value i w (y ∷ ys) values.none meet k x is = absurd meet
 argument_value i w (y ∷ ys) (values.more u us) meet zero x is = (omega arith, meet.0 ∙ ap (value_of i w) (some_same is))

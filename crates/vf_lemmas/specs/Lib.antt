@@ -1,4 +1,5 @@
 pub mod Depths
+pub mod Shares
 pub mod Proves
 pub mod Laws
 pub mod Calls

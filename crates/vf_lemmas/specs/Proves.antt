@@ -15,8 +15,9 @@ use Rattle.vf_rules.specs.Predicates.{AreInhabited, AreSorted, Opens, Closes}
 use Rattle.vf_rules.specs.Cases.{HoldsOfNothing}
 use Rattle.vf_rules.specs.Loops.{AreNamesSorted}
 use Rattle.vf_rules.specs.Accept.{all_of_it, facts_of_sorts, call_store, parameter_symbols, AreFixed, KeepsFixed}
-use Rattle.vf_rules.specs.Lemmas.{OnArgument, OnDepth, LemmaTree}
+use Rattle.vf_rules.specs.Lemmas.{OnArgument, OnDepth, LemmaTree, LemmaHolds}
 use Rattle.vf_lemmas.specs.Depths.{first_of, rest_of, Aside, all_inside, TakesAside, AreNew, AreFreeOf, OpensInto, IsFirst}
+use Rattle.vf_lemmas.specs.Shares.{SplitsInto}
 
 -- on a path the value of a term is of a smaller size than that of another, as a part of a tree is than the tree
 pub record IsSmaller (e : Environment) (path : List Fact) (t u : Term) : Type 0 where
@@ -37,7 +38,7 @@ pub data MayCall (e : Environment) (own : LemmaTree) (place : ℕ) (st : Symboli
   whole_cell_left : HasWholeCell e left → MayCall e own place st ts left place
   smaller_argument : (k : ℕ) (t u : Term) → own.falls ≡ OnArgument k → k < own.contract.parameters → slice_get ts k ≡ Some t → st.names (Numbered k) ≡ Some u → IsSmaller e st.path t u → MayCall e own place st ts left place
 
--- The body of the lemma at a place among lemmas is accepted from a state on: its postcondition is consumed and nothing is left; the state cannot be; or an annotation is followed, or a lemma called, and it is accepted from each state to which that leads. What was set aside of the first part of the precondition is put back, opened, or given to a call of the lemma itself
+-- The body of the lemma at a place among lemmas is accepted from a state on: its postcondition is consumed and nothing is left; the state cannot be; or an annotation is followed, or a lemma called, one of these or another that holds, and it is accepted from each state to which that leads. What was set aside of the first part of the precondition is put back, split into shares, opened, or given to a call of the lemma itself
 pub data Proves (e : Environment) (p : ProgramTree) (lemmas : List LemmaTree) (own : LemmaTree) (place : ℕ) : List Aside → SymbolicState → Type 0 where
   may_end : {st : SymbolicState} → Consume e p own.contract.sorts all_of_it own.contract.ensures_this st.names st (λ s1 st1. (st1.chunks ≡ []) × KeepsFixed own.contract st.names s1) → Proves e p lemmas own place [] st
   may_drop : {asides : List Aside} {st : SymbolicState} → Infeasible e st.path → Proves e p lemmas own place asides st
@@ -55,8 +56,14 @@ pub data Proves (e : Environment) (p : ProgramTree) (lemmas : List LemmaTree) (o
       → Consume e p callee.contract.sorts all_of_it callee.contract.requires_this (call_store ts) st (λ s1 st1.
       MayCall e own place st ts st1 number × AreFixed callee.contract s1 × Produce e p callee.contract.sorts all_of_it callee.contract.ensures_this s1 st1 (IsAmong outs))
       → ((s : terms.Store) (su : SymbolicState) → IsAmong outs s su → Proves e p lemmas own place asides su) → Proves e p lemmas own place asides st
+  may_call_held : {asides : List Aside} {st : SymbolicState} (lemma : LemmaTree) (ts : List Term) (outs : List Outcome) → LemmaHolds e p lemma → (IsTrue lemma.leaks → IsTrue own.leaks)
+      → AreInhabited e lemma.contract.sorts → length ts ≡ lemma.contract.parameters → AreSorted e st.path lemma.contract.sorts ts
+      → Consume e p lemma.contract.sorts all_of_it lemma.contract.requires_this (call_store ts) st (λ s1 st1. AreFixed lemma.contract s1 × Produce e p lemma.contract.sorts all_of_it lemma.contract.ensures_this s1 st1 (IsAmong outs))
+      → ((s : terms.Store) (su : SymbolicState) → IsAmong outs s su → Proves e p lemmas own place asides su) → Proves e p lemmas own place asides st
   may_put_back : {asides others : List Aside} {st : SymbolicState} (a : Aside) (outs : List Outcome) → TakesAside a asides others → Produce e p own.contract.sorts all_of_it a.assertion st.names st (IsAmong outs)
       → ((s : terms.Store) (su : SymbolicState) → IsAmong outs s su → Proves e p lemmas own place others (record su { names = s })) → Proves e p lemmas own place asides st
+  may_split_aside : {asides others : List Aside} {st : SymbolicState} (a : Aside) (first second : Assertion) → TakesAside a asides others → SplitsInto e st.path st.names a.assertion first second
+      → Proves e p lemmas own place (record { inside = a.inside; assertion = first } ∷ record { inside = a.inside; assertion = second } ∷ others) st → Proves e p lemmas own place asides st
   may_open_aside : {asides others : List Aside} {st : SymbolicState} (a : Aside) (sorts : List Sort) (new : List Name) (inner : List Assertion) (rest : Assertion) (outs : List Outcome) → TakesAside a asides others
       → AreNew own.contract st.names new → AreFreeOf new others → OpensInto e st.path st.names a.assertion sorts new inner rest → Produce e p sorts all_of_it rest st.names st (IsAmong outs)
       → ((s : terms.Store) (su : SymbolicState) → IsAmong outs s su → Proves e p lemmas own place (all_inside inner ++ others) (record su { names = s })) → Proves e p lemmas own place asides st

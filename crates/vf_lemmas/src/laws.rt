@@ -3,6 +3,7 @@
 ghost use Rattle.vf_lemmas.specs.Calls.{AssertingIsProved, CallingKeeps, ComponentsAreSmaller};
 ghost use Rattle.vf_lemmas.specs.Laws.{AcceptedLemmasHold};
 ghost use Rattle.vf_lemmas.specs.Openings.{OpeningGoesLower};
+ghost use Rattle.vf_lemmas.specs.Shares.{ChunksAreShared, NamedSharesAreHalved, OpeningShareGoesLower};
 
 /// Each accepted lemma gives, from every part of memory that satisfies its precondition, a part not
 /// greater that satisfies its postcondition; the difference is leaked, and is nothing where it does not leak.
@@ -28,4 +29,19 @@ pub fn asserting_is_proved()
 /// Where the whole of a predicate's chunk is opened, what is in the predicate's body holds less deep.
 pub fn opening_goes_lower()
     ensures { OpeningGoesLower }
+{}
+
+/// A chunk that is set aside is two chunks of shares whose sum is its share.
+pub fn chunks_are_shared()
+    ensures { ChunksAreShared }
+{}
+
+/// A share that has a name is two halves of it.
+pub fn named_shares_are_halved()
+    ensures { NamedSharesAreHalved }
+{}
+
+/// Where a share of a predicate's chunk is opened, what is in the predicate's body holds less deep.
+pub fn opening_share_goes_lower()
+    ensures { OpeningShareGoesLower }
 {}

@@ -3,6 +3,7 @@ pub mod Stands
 pub mod Arguments
 pub mod Patterns
 pub mod Names
+pub mod RowLengths
 pub mod Produces
 pub mod Takes
 pub mod Fits

@@ -28,10 +28,11 @@ use Rattle.vf_rules.specs.Terms.{Term, Store, term_of, head_of, IsBound, IsBound
 use Rattle.vf_rules.specs.Terms as terms
 use Rattle.vf_rules.specs.States.{Fact, Holds, OfSort, CellOf, Of, SymbolicChunk, SymbolicState, meaning, value_in, IsMet, Meets, wanted_in, ChunkMeans, StoreMeans, StandsFor, assuming, assuming_all, with_chunk}
 use Rattle.vf_rules.specs.Types.{IsPointer, is_bool, IsTruth, IsNumberIn, IsOfInteger, IsOfType, facts_of_integer, facts_of_type, type_of_field, IsTypedPart}
-use Rattle.vf_rules.specs.Produce.{known, NamesHaveSorts, IsCovered, Given, facts_of_cell, Produce, ProduceBranches, valued_arguments}
+use Rattle.vf_rules.specs.Produce.{known, NamesHaveSorts, IsCovered, Given, facts_of_cell, facts_of_chunk, Produce, ProduceBranches, valued_arguments}
 use Rattle.vf_rules.proofs.Terms.{bound_value, grown_means}
 use Rattle.vf_rules.proofs.Stands.{meets_more, assuming_stands, assuming_all_stands, with_chunk_stands}
 use Rattle.vf_rules.proofs.Arguments.{refined_none, head_valued}
+use Rattle.vf_rules.proofs.RowLengths.{chunk_met}
 use Rattle.vf_rules.proofs.Patterns.{patterns_read, share_read}
 use Rattle.vf_rules.proofs.Names.{names_unbound, names_distinct, names_values, names_sorted, names_mean, else_same, asked_of_names, known_values, row_listed}
 
@@ -260,9 +261,11 @@ module _ (e : Environment) (prog : ProgramTree) (sorts : List Sort) (scale : Ter
       record {
         under = two.under;
         store = two.store;
-        state = with_chunk two.state chunk;
+        state = assuming_all (with_chunk two.state chunk) (facts_of_chunk head two.new);
         holds = two.holds;
-        stands = with_chunk_stands e two.under two.state locals names chunk q p r (record { fraction = fraction; share = share_is; positive = (stays_positive.1) c h.0 above (h.1).positive; head = (n, owned) }) sums two.stands;
+        stands = assuming_all_stands e two.under (with_chunk two.state chunk) locals names r (facts_of_chunk head two.new)
+            (chunk_met e two.under n fraction head s two.new q owned)
+            (with_chunk_stands e two.under two.state locals names chunk q p r (record { fraction = fraction; share = share_is; positive = (stays_positive.1) c h.0 above (h.1).positive; head = (n, owned) }) sums two.stands);
         means = two.means;
         grows = λ y t g. two.grows y t (one.grows y t g);
         scale_is = two.scale_is ∙ one.scale_is;

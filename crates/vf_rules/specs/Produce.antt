@@ -1,10 +1,10 @@
 -- Producing an assertion: what it says is added to a state, name by name and part by part, from left to right.
-use Rattle.std.specs.Prelude.{◌≡◌, ◌⊎◌, ℕ, zero, suc, List, [], ◌∷◌, ◌++◌, ◌-◌, drop, map, length, slice_get, Option, Some, None}
+use Rattle.std.specs.Prelude.{◌≡◌, ◌⊎◌, ℕ, zero, suc, pos, List, [], ◌∷◌, ◌++◌, ◌-◌, drop, map, length, slice_get, Option, Some, None}
 use Rattle.std.specs.Bool.{MatchBool}
-use Rattle.vf_tree.specs.Core.{TypeTree, ProgramTree, Equal, NotEqual}
+use Rattle.vf_tree.specs.Core.{TypeTree, ProgramTree, Equal, NotEqual, LessEqual}
 use Rattle.vf_model.specs.Values.{Value, Values, same_identity}
 use Rattle.vf_model.specs.Values as values
-use Rattle.vf_meaning.specs.Ghost.{Sort, Fractions, Name, Numbered, Null, Not, Compare, Construct, Fraction, Share}
+use Rattle.vf_meaning.specs.Ghost.{Sort, Integers, Fractions, Name, Numbered, Number, Null, Not, Compare, Construct, Fraction, Share}
 use Rattle.vf_meaning.specs.Valuations.{Valuation}
 use Rattle.vf_meaning.specs.Sorts.{HasSort}
 use Rattle.vf_meaning.specs.Assertions.{ShareTree, Times, Taken, PatternTree, Is, Names, Wild, Head, BlockOf, Named, Family, Applied, Assertion, Pure, Empty, Both, Choose, Switch, Cell, Chunk, Branches, no_branches, branch, Environment}
@@ -64,6 +64,16 @@ facts_of_cell (Some t) (Some pointer ∷ Some content ∷ []) = Holds (Compare N
 facts_of_cell _ (Some pointer ∷ content) = Holds (Compare NotEqual pointer Null) ∷ []
 facts_of_cell _ _ = []
 
+-- what is known of the arguments of a chunk of the prelude's: the length of a row of int cells is a number that is not negative
+abbrev pub facts_of_row : Primitive → List (Option Term) → List Fact
+facts_of_row IntCells (pointer ∷ Some long ∷ content) = OfSort long Integers ∷ Holds (Compare LessEqual (Number (pos 0)) long) ∷ []
+facts_of_row _ _ = []
+
+-- what is known of the arguments of a chunk with a head
+abbrev pub facts_of_chunk : Head → List (Option Term) → List Fact
+facts_of_chunk (Named q) ts = facts_of_row (primitive q) ts
+facts_of_chunk _ ts = []
+
 module _ (e : Environment) (p : ProgramTree) (sorts : List Sort) (scale : Term) where
   -- what is to be shown once a fact is assumed: a state that cannot be may be dropped
   abbrev pub Given : SymbolicState → Fact → (SymbolicState → Type 0) → Type 0
@@ -103,7 +113,7 @@ module _ (e : Environment) (p : ProgramTree) (sorts : List Sort) (scale : Term) 
     Produce (Chunk share head xs) s st K =
         IsBoundHead s head
         × ProduceShare share s st (λ c s1 st1. ProducePatterns (valued_arguments head (length xs)) xs s1 st1 (Some c ∷ []) (λ ts s2 st2.
-        K s2 (with_chunk st2 (record { share = c; head = Of (head_of s head); arguments = drop 1 ts }))))
+        K s2 (assuming_all (with_chunk st2 (record { share = c; head = Of (head_of s head); arguments = drop 1 ts })) (facts_of_chunk head (drop 1 ts)))))
 
     -- each branch with new symbols for its names, of which the term is the constructor's
     pub ProduceBranches : Branches → Term → Store → SymbolicState → (Store → SymbolicState → Type 0) → Type 0

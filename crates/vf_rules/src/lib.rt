@@ -3,17 +3,17 @@
 //! The definitions stand in `specs/`, over those of the machine and of assertions; the code here is
 //! public functions with an empty body, each of which has a law as its contract.
 //!
-//! In `specs/`: terms, symbolic states and what they stand for, producing and consuming every form of assertion,
-//! taking, joining and renaming chunks, opening and closing predicates, evaluating, loops with invariants, claims of
-//! function types, and when a body is accepted: one rule for each core step, with arrays of int (`specs/Arrays`), and
-//! the prelude's calls that concern mutexes and threads by their contracts (`specs/Mutexes`, `specs/Threads`); and
-//! rules for what annotations do between steps: leaks, what a state shows, case splits, switches over values, opening
-//! and closing, calls of lemmas (`specs/Lemmas`), coming to a loop's head. A claim is a refinement: with all of these
-//! ghost steps but leaks and loops (`specs/GhostSteps`) between its parts, the type's precondition is produced, the own
-//! one consumed, the own postcondition produced and the type's consumed. Premises are semantic. Laws:
-//! `producing_adds`, `consuming_takes`, `joining_keeps`, `changes_keep`, `opening_keeps`, `closing_keeps`,
-//! `entering_keeps`, `empty_cases_hold`; annotations that need no rule of their own: `asserting_is_accepted`,
-//! `choosing_is_accepted`.
+//! In `specs/`: terms, symbolic states and what they stand for, producing and consuming every form of assertion (with a
+//! row of int cells it is known at once that its length is not negative), taking, joining and renaming chunks, opening
+//! and closing predicates, evaluating, loops with invariants, claims of function types, and when a body is accepted:
+//! one rule for each core step, with arrays of int (`specs/Arrays`), and the prelude's calls that concern mutexes and
+//! threads by their contracts (`specs/Mutexes`, `specs/Threads`); and rules for what annotations do between steps:
+//! leaks, what a state shows, case splits, switches over values, opening and closing, calls of lemmas (`specs/Lemmas`),
+//! coming to a loop's head. A claim is a refinement: with all of these ghost steps but leaks and loops
+//! (`specs/GhostSteps`) between its parts, the type's precondition is produced, the own one consumed, the own
+//! postcondition produced and the type's consumed. Premises are semantic. Laws: `producing_adds`, `consuming_takes`,
+//! `joining_keeps`, `changes_keep`, `opening_keeps`, `closing_keeps`, `entering_keeps`, `empty_cases_hold`; annotations
+//! that need no rule of their own: `asserting_is_accepted`, `choosing_is_accepted`.
 #![tactic(auto)]
 
 mod ghost_laws;

@@ -18,6 +18,7 @@ use Rattle.vf_rules.specs.Terms.{Term}
 use Rattle.vf_rules.specs.States.{Fact, Holds, OfSort, SymbolicState, value_in, wanted_in, Meets, ChunkMeans, StandsFor}
 use Rattle.vf_rules.specs.Arrays.{row_chunk, shared_row, SplitsContent, splits_known, splits_unknown, JoinsContent, joins_known, joins_unknown, Arranges, knows_length, makes_row, splits_row, joins_rows}
 use Rattle.vf_rules.proofs.Stands.{assuming_all_stands, chunks_more}
+use Rattle.vf_rules.proofs.RowLengths.{length_met}
 use Rattle.vf_rules.proofs.Takes.{same_value, removes_parted}
 use Rattle.vf_safety.proofs.Ready.{positive_whole}
 use Rattle.vf_safety.proofs.Elements.{row_owned_of, count_in, at_most}
@@ -59,12 +60,6 @@ joined_meets e v path _ _ _ front back (joins_known join) m (xs, a, front_is) (y
 joined_meets e v path _ _ _ front back joins_unknown m h k = tt
 
 -- ---- states
-not_below : (n : ℕ) → int_le (pos 0) (pos n) ≡ true
-not_below n = grind (arith, ints)
-
-length_met : (e : Environment) (v : Valuation) (long : Term) (n : ℕ) → value_in e v long ≡ values.Number (pos n) → Meets e v (OfSort long Integers ∷ Holds (Compare LessEqual (Number (pos 0)) long) ∷ [])
-length_met e v long n is = (subst (λ w. HasSort e w Integers) (sym is) (inl refl), (subst (λ w. IsTrue (compared LessEqual (values.Number (pos 0)) w)) (sym is) (not_below n), tt))
-
 pub arranged : (e : Environment) (v : Valuation) {st new : SymbolicState} → Arranges e st new → (locals : List (Option Value)) (names : Valuation) (part : Part) → StandsFor e v st locals names part → StandsFor e v new locals names part
 arranged e v {st} (knows_length u long content c others taken head arguments) locals names part stands =
     let o = removes_parted e v c taken part stands.chunks_mean in

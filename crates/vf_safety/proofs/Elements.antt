@@ -158,7 +158,7 @@ item_there e v path list index item row k held is m (zs, list_is, row_is) index_
     let (z, at, held_is) = map_item zs k held (sym (ap (λ r. slice_get r k) row_is) ∙ there) in
     held_is ∙ ap Some (sym (is.by v m zs k z list_is index_is at))
 
-map_set : (zs : List ℤ) (k : ℕ) (z : ℤ) → slice_set (map (λ y. Some (values.Number y)) zs) k (Some (values.Number z)) ≡ map (λ y. Some (values.Number y)) (slice_set zs k z)
+pub map_set : (zs : List ℤ) (k : ℕ) (z : ℤ) → slice_set (map (λ y. Some (values.Number y)) zs) k (Some (values.Number z)) ≡ map (λ y. Some (values.Number y)) (slice_set zs k z)
 map_set [] k z = refl
 map_set (y ∷ zs) zero z = refl
 map_set (y ∷ zs) (suc k) z = ap (λ r. Some (values.Number y) ∷ r) (map_set zs k z)

@@ -11,7 +11,7 @@ use Rattle.vf_rules.specs.Mutexes.{name}
 use Rattle.vf_safety.specs.ArrayLaws.{nil, cons, cases_of, take_name, drop_name, append_name, apply, is_done, one_less, take_fixpoint, drop_fixpoint, append_fixpoint, ListsAreInOrder}
 
 -- ---- each is used on the rest of a list
-rest_is_named : IsOneOf (Numbered 2 ∷ Numbered 3 ∷ []) (Some (name 3))
+pub rest_is_named : IsOneOf (Numbered 2 ∷ Numbered 3 ∷ []) (Some (name 3))
 rest_is_named = (Numbered 3, refl, (1, omega arith, refl))
 
 take_structural : IsStructural take_fixpoint
@@ -24,7 +24,7 @@ append_structural : IsStructural append_fixpoint
 append_structural = (tt, ((tt, (((λ h. rest_is_named), (tt, (tt, tt))), tt)), tt))
 
 -- ---- each uses itself alone
-in_case : (at_nil at_cons : GhostExpression) (g : Identity) → BodyApplies (Switches 0 (cases_of at_nil at_cons)) g → Applies at_nil g ⊎ Applies at_cons g
+pub in_case : (at_nil at_cons : GhostExpression) (g : Identity) → BodyApplies (Switches 0 (cases_of at_nil at_cons)) g → Applies at_nil g ⊎ Applies at_cons g
 in_case at_nil at_cons g (c, (zero, l, e), h) = inl (subst (λ d. Applies d.result g) (sym e) h)
 in_case at_nil at_cons g (c, (suc zero, l, e), h) = inr (subst (λ d. Applies d.result g) (sym e) h)
 in_case at_nil at_cons g (c, (suc (suc k), l, e), h) = absurd (no k l)
@@ -32,18 +32,18 @@ in_case at_nil at_cons g (c, (suc (suc k), l, e), h) = absurd (no k l)
     no : (k : ℕ) → suc (suc k) < 2 → ⊥
     no k l = omega (arith, l)
 
-in_apply : (f g : Identity) (a b : GhostExpression) → (Applies a g → ⊥) → (Applies b g → ⊥) → Applies (apply f a b) g → g ≡ f
+pub in_apply : (f g : Identity) (a b : GhostExpression) → (Applies a g → ⊥) → (Applies b g → ⊥) → Applies (apply f a b) g → g ≡ f
 in_apply f g a b no_a no_b (inl e) = sym e
 in_apply f g a b no_a no_b (inr (inl h)) = absurd (no_a h)
 in_apply f g a b no_a no_b (inr (inr (inl h))) = absurd (no_b h)
 in_apply f g a b no_a no_b (inr (inr (inr h))) = absurd h
 
-in_cons : (g : Identity) (a b : GhostExpression) → Applies (cons a b) g → Applies a g ⊎ Applies b g
+pub in_cons : (g : Identity) (a b : GhostExpression) → Applies (cons a b) g → Applies a g ⊎ Applies b g
 in_cons g a b (inl h) = inl h
 in_cons g a b (inr (inl h)) = inr h
 in_cons g a b (inr (inr h)) = absurd h
 
-not_in_one_less : (g : Identity) → Applies one_less g → ⊥
+pub not_in_one_less : (g : Identity) → Applies one_less g → ⊥
 not_in_one_less g (inl h) = h
 not_in_one_less g (inr h) = h
 
@@ -80,7 +80,7 @@ append_uses g h = elim (in_case _ _ g h) [ inl n ↦ absurd n | inr c ↦ at_con
     at_cons d = elim (in_cons g (name 2) (apply append_name (name 3) (name 1)) d) [ inl x ↦ absurd x | inr x ↦ in_apply append_name g (name 3) (name 1) (λ y. y) (λ y. y) x ]
 
 -- ---- they have different names
-unlike : (f g : Identity) → same_identity f g ≡ false → f ≢ g
+pub unlike : (f g : Identity) → same_identity f g ≡ false → f ≢ g
 unlike f g other e = false≢true (sym other ∙ ap (same_identity f) (sym e) ∙ (bytes_decides f f).1 refl)
 
 none_alike : (h : FixpointTree) → Contains {X = FixpointTree} [] h → (f : Identity) → h.identity ≢ f

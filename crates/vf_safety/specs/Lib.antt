@@ -3,3 +3,4 @@ pub mod Laws
 pub mod GhostLaws
 pub mod ArrayLaws
 pub mod LeakLaws
+pub mod ElementLaws

@@ -1,0 +1,5 @@
+use Rattle.vf_safety.proofs.ElementFixpoints.{lists_are_cut}
+use Rattle.vf_safety.proofs.element_laws.lists_are_cut.Goals as goal
+
+pub returns : goal.returns
+returns c = lists_are_cut
