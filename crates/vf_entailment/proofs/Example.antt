@@ -1,5 +1,5 @@
 -- The example of lists, worked.
-use Rattle.std.proofs.Common.{◌≡◌, ◌≢◌, ◌⊎◌, inl, inr, ℕ, zero, suc, Bool, true, false, List, [], ◌∷◌, map, Some, refl, sym, subst, ap, ◌∙◌, arith}
+use Rattle.std.proofs.Common.{◌≡◌, ◌≢◌, ◌⊎◌, inl, inr, ℕ, zero, suc, true, false, List, [], ◌∷◌, Some, refl, sym, subst, ap, ◌∙◌, arith}
 use Rattle.std.specs.Prelude.{◌<◌, ◌≤ℤ◌, pos, neg_ℤ, ◌+ℤ◌, Contains, IsTrue}
 use Rattle.std.proofs.lemmas.Int.{ints}
 use Rattle.vf_tree.specs.Core.{Identity}
@@ -31,6 +31,12 @@ never e = absurd cc
 
 no_third : {A : Type 0} (k : ℕ) → suc (suc k) < 2 → A
 no_third k low = absurd (omega (arith, low))
+
+no_sixth : {A : Type 0} (k : ℕ) → suc (suc (suc (suc (suc k)))) < 5 → A
+no_sixth k low = absurd (omega (arith, low))
+
+no_second : {A : Type 0} (k : ℕ) → suc k < 1 → A
+no_second k low = absurd (omega (arith, low))
 
 -- a tree of another name than one that stands in a list
 other_name : (f : FixpointTree) (c : Identity) → same_identity f.identity c ≡ false → (g : FixpointTree) → f ≡ g → g.identity ≢ c
@@ -92,24 +98,32 @@ once_more f k fs e rest l (zero, low, is) = other_name k f.identity e l is
 once_more f k fs e rest l (suc n, low, is) = rest l (n, omega (arith, low), is)
 
 length_structural : IsStructural length_tree
-length_structural = (tt, ((((λ q. (Numbered 2, refl, (1, omega arith, refl))), tt, tt), tt), tt), tt)
+length_structural = (tt, ((((λ q. (Numbered 2, refl, (1, omega arith, refl)), (tt, tt)), tt), tt), tt))
 
 append_structural : IsStructural append_tree
-append_structural = (tt, ((tt, tt), ((λ q. (Numbered 3, refl, (1, omega arith, refl))), tt, tt, tt), tt), tt)
+append_structural = (tt, (((tt, tt), ((λ q. (Numbered 3, refl, (1, omega arith, refl)), (tt, (tt, tt))), tt)), tt))
 
 pick_structural : IsStructural pick_tree
-pick_structural = (tt, tt, tt)
+pick_structural = (tt, (tt, tt))
 
 doubled_structural : IsStructural doubled_tree
-doubled_structural = (((λ q. never q), ((λ q. never q), tt, tt, tt), tt), tt)
+doubled_structural = ((λ q. never q, ((λ q. never q, (tt, (tt, tt))), tt)), tt)
+
+length_ordered : AreOrdered (length_tree ∷ [])
+length_ordered = (length_structural, length_uses, once_none length_tree, tt)
+
+append_ordered : AreOrdered (append_tree ∷ length_tree ∷ [])
+append_ordered = (append_structural, append_uses, once_more append_tree length_tree [] refl (once_none append_tree), length_ordered)
+
+pick_ordered : AreOrdered (pick_tree ∷ append_tree ∷ length_tree ∷ [])
+pick_ordered = (pick_structural, pick_uses, once_more pick_tree append_tree (length_tree ∷ []) refl (once_more pick_tree length_tree [] refl (once_none pick_tree)), append_ordered)
 
 lists_ordered : AreOrdered list_unit.fixpoints
 lists_ordered = (
-  doubled_structural, doubled_uses, once_more doubled_tree pick_tree (append_tree ∷ length_tree ∷ []) refl (once_more doubled_tree append_tree (length_tree ∷ []) refl (once_more doubled_tree length_tree [] refl (once_none doubled_tree))),
-  pick_structural, pick_uses, once_more pick_tree append_tree (length_tree ∷ []) refl (once_more pick_tree length_tree [] refl (once_none pick_tree)),
-  append_structural, append_uses, once_more append_tree length_tree [] refl (once_none append_tree),
-  length_structural, length_uses, once_none length_tree,
-  tt,
+  doubled_structural,
+  doubled_uses,
+  once_more doubled_tree pick_tree (append_tree ∷ length_tree ∷ []) refl (once_more doubled_tree append_tree (length_tree ∷ []) refl (once_more doubled_tree length_tree [] refl (once_none doubled_tree))),
+  pick_ordered,
 )
 
 -- ---- the definitions stand in the environment
@@ -119,7 +133,7 @@ lists_among f (suc zero, low, is) = subst (IsAmong list_unit.fixpoints) is (reco
 lists_among f (suc (suc zero), low, is) = subst (IsAmong list_unit.fixpoints) is (record { sorts = lists ∷ Anything ∷ Anything ∷ []; result = Anything; body = pick_body; number = refl; is = refl; there = (1, omega arith, refl) })
 lists_among f (suc (suc (suc zero)), low, is) = subst (IsAmong list_unit.fixpoints) is (record { sorts = lists ∷ Anything ∷ Anything ∷ []; result = Anything; body = pick_body; number = refl; is = refl; there = (1, omega arith, refl) })
 lists_among f (suc (suc (suc (suc zero))), low, is) = subst (IsAmong list_unit.fixpoints) is (record { sorts = lists ∷ []; result = Integers; body = doubled_body; number = refl; is = refl; there = (0, omega arith, refl) })
-lists_among f (suc (suc (suc (suc (suc k)))), low, is) = absurd (omega (arith, low))
+lists_among f (suc (suc (suc (suc (suc k)))), low, is) = no_sixth k low
 
 -- ---- linking
 list_extends : Extends list_unit list_unit
@@ -151,7 +165,7 @@ other_extends = record {
 each_extends : (u : Environment) → Contains list_units u → Extends u list_unit
 each_extends u (zero, low, is) = subst (λ (x : Environment). Extends x list_unit) is list_extends
 each_extends u (suc zero, low, is) = subst (λ (x : Environment). Extends x list_unit) is other_extends
-each_extends u (suc (suc k), low, is) = absurd (omega (arith, low))
+each_extends u (suc (suc k), low, is) = no_third k low
 
 the_first : (P : Environment → Type 0) → P list_unit → SomeUnit list_units P
 the_first P e = (list_unit, (0, omega arith, refl), e)
@@ -228,7 +242,7 @@ lists_entail = record {
 -- ---- integers as whole numbers
 eq_among : AreAmong (eq_viewed ∷ []) eq_definitions
 eq_among f (zero, low, is) = subst (IsAmong (eq_viewed ∷ [])) is (record { sorts = Integers ∷ Integers ∷ []; result = Truths; body = eq_body; number = refl; is = refl; there = (0, omega arith, refl) })
-eq_among f (suc k, low, is) = absurd (omega (arith, low))
+eq_among f (suc k, low, is) = no_second k low
 
 viewed_uses : (g : Identity) → BodyApplies eq_viewed.body g → Uses eq_viewed [] g
 viewed_uses g (inl (inl n)) = absurd n
@@ -249,7 +263,7 @@ plain_differs e = cc
 
 pub integers_whole : IntegersAreWhole
 integers_whole = record {
-  met = definitions_met (with_fixpoints (eq_viewed ∷ [])) eq_definitions (((tt, tt), tt, tt), viewed_uses, once_none eq_viewed, tt) eq_among;
+  met = definitions_met (with_fixpoints (eq_viewed ∷ [])) eq_definitions (((tt, tt), (tt, tt)), viewed_uses, once_none eq_viewed, tt) eq_among;
   plain_ordered = ((tt, tt), plain_uses, once_none eq_plain, tt);
   plain_is_not_met = λ m. plain_differs (m eq_definition (0, omega arith, refl) odd_arguments refl);
 }

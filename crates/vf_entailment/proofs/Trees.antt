@@ -1,5 +1,5 @@
 -- The meaning of an environment gives the fixpoints among its own the values of their bodies.
-use Rattle.std.proofs.Common.{◌≡◌, ◌↔◌, ℕ, zero, suc, Bool, true, false, cond, List, [], ◌∷◌, length, map, Option, Some, None, refl, sym, subst, ap, ap₂, ◌∙◌, arith}
+use Rattle.std.proofs.Common.{◌≡◌, ◌↔◌, ℕ, zero, suc, Bool, true, false, cond, List, [], ◌∷◌, length, map, Some, refl, sym, subst, ap, ap₂, ◌∙◌, arith}
 use Rattle.std.specs.Prelude.{Contains, ◌==◌}
 use Rattle.std.proofs.Math.Path.{fun_ext}
 use Rattle.std.proofs.lemmas.Bool.Decides.{Decides-eqb}
@@ -18,7 +18,7 @@ use Rattle.vf_normal.specs.Sums.{as_integer, integer_by}
 use Rattle.vf_normal.proofs.Worth.{as_integer_value}
 use Rattle.vf_formula.specs.Heads.{shown_kind}
 use Rattle.vf_definitions.specs.Unfolded.{case_for}
-use Rattle.vf_definitions.specs.Laws.{MeetsBody, MeetsDefinitions}
+use Rattle.vf_definitions.specs.Laws.{MeetsBody}
 use Rattle.vf_definitions.specs.declared.fixpoint.Case.{Case}
 use Rattle.vf_definitions.specs.declared.fixpoint.Body.{Body}
 use Rattle.vf_definitions.specs.declared.fixpoint.Body.TheVariants.{Returns, Switches}

@@ -1,8 +1,8 @@
 -- A term has the value of the expression that it means.
 use Rattle.std.proofs.Common.{◌≡◌, ℕ, zero, suc, List, ◌∷◌, [], Option, Some, None, refl, sym, ap, ap₂, ◌∙◌}
-use Rattle.std.specs.Prelude.{ℤ, pos, ◌+ℤ◌, not, ◌&&◌, ◌||◌, cond}
+use Rattle.std.specs.Prelude.{ℤ, not, ◌&&◌, ◌||◌, cond}
 use Rattle.vf_tree.specs.Core.{Add, Multiply}
-use Rattle.vf_model.specs.Values.{Dyadic, Value, Values, none, more, number_of}
+use Rattle.vf_model.specs.Values.{Dyadic, Value, more, number_of}
 use Rattle.vf_model.specs.Values as values
 use Rattle.vf_meaning.specs.Ghost.{GhostExpression, GhostExpressions, no_expressions, and_expression}
 use Rattle.vf_meaning.specs.Valuations.{Valuation, value_at, is_true, fraction_in, further}
