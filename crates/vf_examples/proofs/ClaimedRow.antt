@@ -6,11 +6,10 @@ use Rattle.vf_meaning.specs.Assertions.{Named}
 use Rattle.vf_rules.specs.Terms.{Term, Store, stored}
 use Rattle.vf_rules.specs.States.{Fact, Holds, OfSort, Of, SymbolicChunk, SymbolicState}
 use Rattle.vf_rules.specs.Fresh.{symbol}
-use Rattle.vf_rules.specs.Take.{takes_all, removes_here, no_change}
+use Rattle.vf_rules.specs.Take.{takes_all, no_change}
 use Rattle.vf_rules.specs.Laws.{Grows}
-use Rattle.vf_rules.specs.Arrays.{knows_length}
 use Rattle.vf_rules.specs.Accept.{all_of_it, call_store, pointer_store, HasContract, Accepts, do_return, IsAcceptedFunction}
-use Rattle.vf_rules.specs.GhostSteps.{AfterGhostSteps, no_step, may_arrange}
+use Rattle.vf_rules.specs.GhostSteps.{AfterGhostSteps, no_step}
 use Rattle.vf_rules.specs.Claims.{before_claim, Ends, StandsIn, Refines, KeepsClaim}
 use Rattle.vf_rules.proofs.Terms.{stored_own, stored_grows}
 use Rattle.vf_examples.specs.BoxProgram.{somewhere}
@@ -132,7 +131,7 @@ stands_in = (
 refines : Refines claiming_environment claiming_program count count_contract counter_contract count_name
 refines = record {
   parameters = refl;
-  outs = record { store = names; state = claimed (call_store arguments) (row_there ∷ []) claim_path } ∷ [];
+  outs = record { store = names; state = claimed (call_store arguments) (row_there ∷ []) known_path } ∷ [];
   required = (
     nothing_bound type_names,
     (
@@ -152,8 +151,8 @@ refines = record {
       ),
     ),
   );
-  kept = λ s st among. among_one (λ s st. AfterGhostSteps claiming_environment claiming_program (StandsIn claiming_environment claiming_program count count_contract counter_contract) (record st { names = s })) names (claimed (call_store arguments) (row_there ∷ []) claim_path)
-      (may_arrange (knows_length (symbol 0) (symbol 1) (Some (symbol 2)) row_there [] removes_here refl refl) (no_step stands_in)) s st among;
+  kept = λ s st among. among_one (λ s st. AfterGhostSteps claiming_environment claiming_program (StandsIn claiming_environment claiming_program count count_contract counter_contract) (record st { names = s })) names (claimed (call_store arguments) (row_there ∷ []) known_path)
+      (no_step stands_in) s st among;
 }
 
 pub count_keeps : KeepsClaim claiming_environment claiming_program count_name counter_contract
