@@ -1,24 +1,28 @@
 -- A chunk that is set aside is the sum of two shares of it, and a share of it is opened by itself.
-use Rattle.std.proofs.Common.{◌≡◌, ℕ, zero, suc, ◌<◌, List, [], ◌∷◌, map, slice_get, Some, sym, ap, subst, ◌∙◌, refl, arith}
+use Rattle.std.proofs.Common.{◌≡◌, ℕ, zero, suc, ◌+◌, ◌*◌, ◌<◌, List, [], ◌∷◌, map, slice_get, Option, Some, None, sym, ap, ap₂, subst, ◌∙◌, refl, inl, inr, arith}
 use Rattle.vf_model.specs.Values.{Dyadic, Values}
-use Rattle.vf_meaning.specs.Fractions.{whole, sum, product, half, IsPositive}
-use Rattle.vf_meaning.specs.Ghost.{GhostExpression}
+use Rattle.vf_meaning.specs.Fractions.{whole, nought, exponent, sum, product, half, IsPositive, units}
+use Rattle.vf_meaning.specs.Ghost.{Name, GhostExpression}
 use Rattle.vf_meaning.specs.Valuations.{Valuation, fraction_in, listed}
 use Rattle.vf_meaning.specs.GhostValues.{Interpretation, value_of}
 use Rattle.vf_meaning.specs.Assertions.{ShareTree, Times, PatternTree, Is, Head, BlockOf, Named, Family, Applied, Chunk, BodyName, Plain, Environment}
 use Rattle.vf_meaning.specs.Parts.{Part}
-use Rattle.vf_meaning.specs.Chunks.{product_if, Wanted, AllMeet, wanted, IsStructBlock}
+use Rattle.vf_meaning.specs.Chunks.{product_if, times_names, Wanted, AllMeet, wanted, IsStructBlock}
 use Rattle.vf_meaning.specs.Satisfaction.{IsShare, SatisfiesPrimitive, SatisfiesNamed, SatisfiesFamily, SatisfiesValue, SatisfiesHead, SatisfiesIf, MeansAt, SatisfiesAt}
-use Rattle.vf_meaning.proofs.Fractions.{product_commutes, whole_scales_nothing, product_distributes, stays_positive}
+use Rattle.vf_meaning.proofs.Fractions.{same_units, product_low, product_units, product_commutes, product_associates, whole_scales_nothing, product_distributes, stays_positive}
+use Rattle.vf_meaning.proofs.Parts.{nought_or_positive, not_nought}
 use Rattle.vf_meaning.proofs.Satisfaction.{scales_split}
 use Rattle.vf_rules.specs.Mutexes.{full}
 use Rattle.vf_rules.specs.States.{meaning, Meets, StoreMeans}
 use Rattle.vf_lemmas.specs.Depths.{Inside}
-use Rattle.vf_lemmas.specs.Shares.{ChunksAreShared, NamedSharesAreHalved, OpeningShareGoesLower}
+use Rattle.vf_lemmas.specs.Shares.{ChunksAreShared, NamedSharesAreHalved, WrittenSharesAreAdded, OpeningShareGoesLower}
 use Rattle.vf_lemmas.proofs.Openings.{argument_value}
 
 some_same : {A : Type 0} {x y : A} → Some x ≡ Some y → x ≡ y
 some_same e = cc
+
+none_some : {A B : Type 0} {x : A} → None ≡ Some x → B
+none_some e = cc
 
 positive_whole : IsPositive whole
 positive_whole = omega arith
@@ -69,6 +73,61 @@ named_shares_are_halved f = record {
       let own : fraction_in (w f) ≡ Some x = is.is in
       let share : IsShare w (Times (half whole) (f ∷ [])) (product (half whole) x) = record { is = ap (product_if (Some (half whole))) own; positive = (stays_positive.1) (half whole) x positive_half is.positive } in
       (product (half whole) x, product (half whole) x, two_halves x, share, share);
+}
+
+-- ---- sums
+both_some : (o r : Option Dyadic) (t : Dyadic) → product_if o r ≡ Some t → (a : Dyadic) × (b : Dyadic) × (o ≡ Some a) × (r ≡ Some b) × (t ≡ product a b)
+both_some (Some a) (Some b) t h = (a, b, refl, refl, sym (some_same h))
+both_some None r t h = none_some h
+both_some (Some a) None t h = none_some h
+
+-- what the names of a share come to
+record Factor (w : Valuation) (d t : Dyadic) (ys : List Name) : Type 0 where
+  factor : Dyadic
+  is : t ≡ product d factor
+  for_each : (c : Dyadic) → times_names w c ys ≡ Some (product c factor)
+
+times_whole : (d : Dyadic) → d ≡ product d whole
+times_whole d = sym (whole_scales_nothing d) ∙ product_commutes whole d
+
+factored : (w : Valuation) (d t : Dyadic) (ys : List Name) → times_names w d ys ≡ Some t → Factor w d t ys
+factored w d t [] h = record { factor = whole; is = sym (some_same h) ∙ times_whole d; for_each = λ c. ap Some (times_whole c) }
+factored w d t (y ∷ ys) h =
+    let (a, b, first, second, is) = both_some (times_names w d ys) (fraction_in (w y)) t h in
+    let f = factored w d a ys first in
+    record {
+      factor = product f.factor b;
+      is = is ∙ ap (λ z. product z b) f.is ∙ product_associates d f.factor b;
+      for_each = λ c. ap₂ product_if (f.for_each c) second ∙ ap Some (product_associates c f.factor b);
+    }
+
+no_units : (s : ℕ) → units nought s ≡ 0
+unfolding units
+no_units s = omega arith
+
+zero_times : (m n : ℕ) → m ≡ 0 → m * n ≡ 0
+zero_times m n h = ap (λ z. z * n) h ∙ none_times n
+  where
+    none_times : (n : ℕ) → 0 * n ≡ 0
+    none_times n = omega arith
+
+product_nought : (a b : Dyadic) → b ≡ nought → product a b ≡ nought
+product_nought a b h = ap (product a) h ∙ product_commutes a nought ∙ none
+  where
+    none : product nought a ≡ nought
+    none = same_units (product nought a) nought (0 + exponent a) (product_low nought a) (omega arith) (product_units nought a 0 (exponent a) (omega arith) (omega arith) ∙ zero_times (units nought 0) (units a (exponent a)) (no_units 0) ∙ sym (no_units (0 + exponent a)))
+
+-- a factor of a positive product is positive
+positive_factor : (a b t : Dyadic) → t ≡ product a b → IsPositive t → IsPositive b
+positive_factor a b t is positive = elim (nought_or_positive b) [ inl none ↦ absurd (not_nought t (is ∙ product_nought a b none) positive) | inr some ↦ some ]
+
+pub written_shares_are_added : WrittenSharesAreAdded
+written_shares_are_added x y ys above also = record {
+  by = λ w t is.
+      let f = factored w (sum x y) t ys is.is in
+      let u = f.factor in
+      let some : IsPositive u = positive_factor (sum x y) u t f.is is.positive in
+      (product x u, product y u, f.is ∙ product_distributes x y u, record { is = f.for_each x; positive = (stays_positive.1) x u above some }, record { is = f.for_each y; positive = (stays_positive.1) y u also some });
 }
 
 -- ---- a share is opened

@@ -2,7 +2,7 @@
 use Rattle.std.specs.Prelude.{◌≡◌, ℕ, List, [], ◌∷◌, map, slice_get, Some}
 use Rattle.vf_tree.specs.Core.{Identity}
 use Rattle.vf_model.specs.Values.{Dyadic}
-use Rattle.vf_meaning.specs.Fractions.{whole, sum, half}
+use Rattle.vf_meaning.specs.Fractions.{whole, sum, half, IsPositive}
 use Rattle.vf_meaning.specs.Ghost.{Sort, Name, Numbered, GhostExpression}
 use Rattle.vf_meaning.specs.Valuations.{Valuation}
 use Rattle.vf_meaning.specs.GhostValues.{value_of}
@@ -33,6 +33,10 @@ ChunksAreShared =
 -- a share that has a name, `[?f]`, is the sum of two halves of it
 abbrev pub NamedSharesAreHalved : Type 0
 NamedSharesAreHalved = (f : Name) → IsSharePair (Taken f) (Times (half whole) (f ∷ [])) (Times (half whole) (f ∷ []))
+
+-- a share whose number is a sum, as 1 is that of a half and a half, is the sum of the shares of both
+abbrev pub WrittenSharesAreAdded : Type 0
+WrittenSharesAreAdded = (x y : Dyadic) (ys : List Name) → IsPositive x → IsPositive y → IsSharePair (Times (sum x y) ys) (Times x ys) (Times y ys)
 
 -- On a path a body at arguments over names comes, at a share, to inner assertions and a rest: under every valuation of the body's names that gives its parameters the arguments' values, what satisfies the body's assertion at a depth, scaled by the share, is the sum of a part of which the inner ones hold at that depth, and of one of which the rest holds
 pub record ShareComesTo (e : Environment) (path : List Fact) (names : Store) (share : ShareTree) (body : BodyTree) (arguments : List GhostExpression) (sorts : List Sort) (new : List Name) (inner : List Assertion) (rest : Assertion) : Type 0 where

@@ -3,7 +3,7 @@
 ghost use Rattle.vf_lemmas.specs.Calls.{AssertingIsProved, CallingKeeps, ComponentsAreSmaller};
 ghost use Rattle.vf_lemmas.specs.Laws.{AcceptedLemmasHold};
 ghost use Rattle.vf_lemmas.specs.Openings.{OpeningGoesLower};
-ghost use Rattle.vf_lemmas.specs.Shares.{ChunksAreShared, NamedSharesAreHalved, OpeningShareGoesLower};
+ghost use Rattle.vf_lemmas.specs.Shares.{ChunksAreShared, NamedSharesAreHalved, OpeningShareGoesLower, WrittenSharesAreAdded};
 
 /// Each accepted lemma gives, from every part of memory that satisfies its precondition, a part not
 /// greater that satisfies its postcondition; the difference is leaked, and is nothing where it does not leak.
@@ -44,4 +44,9 @@ pub fn named_shares_are_halved()
 /// Where a share of a predicate's chunk is opened, what is in the predicate's body holds less deep.
 pub fn opening_share_goes_lower()
     ensures { OpeningShareGoesLower }
+{}
+
+/// A share whose number is a sum is the sum of the shares of both.
+pub fn written_shares_are_added()
+    ensures { WrittenSharesAreAdded }
 {}

@@ -9,7 +9,7 @@
 //! from every part that satisfies its precondition, a part not greater that satisfies its postcondition; the rest is
 //! leaked, and is nothing where it does not leak), `calling_keeps`, `components_are_smaller`, `opening_goes_lower`,
 //! `asserting_is_proved`; that the first part may be opened in two shares, the second one later: `chunks_are_shared`,
-//! `named_shares_are_halved`, `opening_share_goes_lower`.
+//! `named_shares_are_halved`, `written_shares_are_added`, `opening_share_goes_lower`.
 #![tactic(auto)]
 
 mod laws;
@@ -17,4 +17,5 @@ mod laws;
 pub use laws::{
     accepted_lemmas_hold, asserting_is_proved, calling_keeps, chunks_are_shared,
     components_are_smaller, named_shares_are_halved, opening_goes_lower, opening_share_goes_lower,
+    written_shares_are_added,
 };
