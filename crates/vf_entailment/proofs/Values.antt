@@ -13,7 +13,7 @@ use Rattle.vf_closure.specs.Values.{weighed, times, share_value, applied, value,
 use Rattle.vf_closure.specs.Values as closed
 use Rattle.vf_normal.proofs.Numbers.{nothing_behind}
 use Rattle.vf_entailment.specs.Meant.{of_kind, expression_at, shared_with, summed, meant_over, meant, all_meant}
-use Rattle.vf_entailment.specs.Laws.{TermsHaveTheirMeaning}
+use Rattle.vf_entailment.specs.Laws.{TermsHaveTheirMeaning, WholeNumbersStay}
 
 -- a fraction with one factor more
 one_shared : (o : Option Dyadic) (w : Value) → share_value (product_if o (fraction_in w)) ≡ shared (share_value o) w
@@ -80,3 +80,7 @@ module _ (i : Interpretation) (v : Valuation) where
 
 pub terms_meant : TermsHaveTheirMeaning
 terms_meant i v t = value_is i v t
+
+pub whole_numbers_stay : WholeNumbersStay
+whole_numbers_stay i v Integer x z e = kinded i v Integer x ∙ ap (λ w. values.Number (number_of w)) e
+whole_numbers_stay i v Other x z e = e

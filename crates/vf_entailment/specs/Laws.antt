@@ -1,11 +1,13 @@
 -- From right answers to entailment. Each law is the contract of a public function with an empty body.
-use Rattle.std.specs.Prelude.{◌≡◌, ◌↔◌, List, Contains, IsTrue, map}
+use Rattle.std.specs.Prelude.{◌≡◌, ◌↔◌, ℤ, List, Contains, IsTrue, map}
+use Rattle.vf_model.specs.Values as values
+use Rattle.vf_meaning.specs.Ghost.{GhostExpression}
 use Rattle.vf_meaning.specs.Valuations.{Valuation, is_true}
 use Rattle.vf_meaning.specs.GhostValues.{Interpretation, value_of}
 use Rattle.vf_meaning.specs.Structural.{AreOrdered}
 use Rattle.vf_meaning.specs.Assertions.{Environment}
 use Rattle.vf_meaning.specs.Environments.{IsLinked}
-use Rattle.vf_closure.specs.Terms.{Integer, Other, Term}
+use Rattle.vf_closure.specs.Terms.{Kind, Integer, Other, Term}
 use Rattle.vf_closure.specs.Values.{value}
 use Rattle.vf_closure.specs.Literals.{Literal, IsInteger, False}
 use Rattle.vf_closure.specs.Literals as literals
@@ -18,13 +20,17 @@ use Rattle.vf_asking.specs.declared.answers.Answer.TheVariants.{Proved}
 use Rattle.vf_asking.specs.Journal.{Asked}
 use Rattle.vf_asking.specs.Right.{IsRight}
 use Rattle.vf_rules.specs.States.{Fact, meaning, IsMet, Meets, Entails, Infeasible}
-use Rattle.vf_entailment.specs.Meant.{meant}
+use Rattle.vf_entailment.specs.Meant.{of_kind, meant}
 use Rattle.vf_entailment.specs.Facts.{said, fact_of}
 use Rattle.vf_entailment.specs.Trees.{body_as, AreAmong}
 
 -- a term has the value of the expression that it means, whatever names and fixpoints stand for
 abbrev pub TermsHaveTheirMeaning : Type 0
 TermsHaveTheirMeaning = (i : Interpretation) (v : Valuation) (t : Term) → value_of i v (meant t) ≡ value i v t
+
+-- what has a whole number for its value keeps it where it is read as a kind has it
+abbrev pub WholeNumbersStay : Type 0
+WholeNumbersStay = (i : Interpretation) (v : Valuation) (k : Kind) (x : GhostExpression) (z : ℤ) → value_of i v x ≡ values.Number z → value_of i v (of_kind k x) ≡ values.Number z
 
 -- a valuation meets a literal exactly where what it says is true
 abbrev pub LiteralsAreFacts : Type 0

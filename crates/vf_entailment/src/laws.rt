@@ -1,10 +1,15 @@
 //! Laws of terms, definitions and answers. Each function does nothing; its contract is the law.
 
-ghost use Rattle.vf_entailment.specs.Laws.{BodiesStayOfTheirKind, DefinitionsAreMet, LinkedAnswersEntail, LinkedDefinitionsStand, LiteralsAreFacts, ProvedFalsehoodIsInfeasible, RightAnswersEntail, RightAnswersServeStates, TermsHaveTheirMeaning};
+ghost use Rattle.vf_entailment.specs.Laws.{BodiesStayOfTheirKind, DefinitionsAreMet, LinkedAnswersEntail, LinkedDefinitionsStand, LiteralsAreFacts, ProvedFalsehoodIsInfeasible, RightAnswersEntail, RightAnswersServeStates, TermsHaveTheirMeaning, WholeNumbersStay};
 
 /// A term has the value of the expression that it means, whatever names and fixpoints stand for.
 pub fn terms_have_their_meaning()
     ensures { TermsHaveTheirMeaning }
+{}
+
+/// What has a whole number for its value keeps it in the view, in which it is read as one whatever its value.
+pub fn whole_numbers_stay()
+    ensures { WholeNumbersStay }
 {}
 
 /// A valuation meets a literal exactly where what it says is true.
