@@ -1,0 +1,5 @@
+pub mod Cutting
+pub mod WordLaws
+pub mod LineLaws
+pub mod ManifestLaws
+pub mod SortLaws

@@ -1,0 +1,6 @@
+pub mod Cuts
+pub mod Words
+pub mod Signatures
+pub mod Lines
+pub mod Manifests
+pub mod Reading

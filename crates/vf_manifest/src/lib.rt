@@ -1,0 +1,26 @@
+//! Manifests: what a file that was accepted provides and requires, as data and as text.
+//!
+//! This is the layer of linking. A manifest is a set of lines of eight kinds, kept in the order of their bytes, each
+//! once. [`write_manifest`] gives the text of a manifest in version 2. [`read_manifest`] reads a text of version 1 or
+//! 2: its answer is the manifest that the text stands for, or the first line at which the text is that of no manifest.
+//! A signature that version 1 does not tell is `?`. [`digest`] is what a manifest says of a header's bytes.
+#![tactic(auto)]
+
+mod fault;
+mod hashing;
+mod kind;
+mod line;
+mod manifest;
+mod order;
+mod signature;
+mod spelling;
+mod words;
+
+pub use fault::ManifestFault;
+pub use hashing::digest;
+pub use line::{Identity, Line, Version};
+pub use manifest::{MOST_BYTES, Manifest, one_reading, read_manifest};
+pub use spelling::write_manifest;
+
+#[cfg(test)]
+mod tests;
