@@ -1,0 +1,3 @@
+pub mod Leads
+pub mod Tables
+pub mod Shown
