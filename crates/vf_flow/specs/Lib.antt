@@ -1,3 +1,5 @@
 pub mod Leads
 pub mod Tables
 pub mod Shown
+pub mod Steps
+pub mod Named

@@ -4,10 +4,10 @@ ghost use Rattle.std.specs.Prelude.{◌≡◌, IfOk, map, option_map};
 ghost use Rattle.vf_core.specs.Shown.{expression_of, expressions_of};
 ghost use Rattle.vf_steps.specs.Core.{expression_tree};
 ghost use Rattle.vf_steps.specs.Shown.{value_of, values_of};
-ghost use Rattle.vf_numbered.specs.Shown.{naming_of};
+ghost use Rattle.vf_flow.specs.Named.{naming_of};
 
 use crate::naming::Naming;
-use crate::narrowing::narrow;
+use crate::numbers::narrow;
 use std::alloc::Global;
 use vf_base::{Memory, Sequence};
 use vf_core::Expression;

@@ -1,7 +1,7 @@
 use Rattle.std.proofs.Common.{◌≡◌, take}
 use Rattle.vf_steps.specs.Shown.{nodes_of}
-use Rattle.vf_numbered.specs.Steps.{flows_of}
-use Rattle.vf_numbered.proofs.flows.flows.Given as goal
+use Rattle.vf_flow.specs.Steps.{flows_of}
+use Rattle.vf_flow.proofs.flows.node_flows.Given as goal
 
 -- those so far are the first
 abbrev pub invariant-loop-node : goal.invariant-loop-node

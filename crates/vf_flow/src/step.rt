@@ -5,16 +5,15 @@ ghost use Rattle.vf_core.specs.Shown.{step_of};
 ghost use Rattle.vf_steps.specs.Core.{step_tree};
 ghost use Rattle.vf_steps.specs.Shown.{action_of};
 ghost use Rattle.vf_flow.specs.Shown.{number_in};
-ghost use Rattle.vf_numbered.specs.Shown.{naming_of};
-ghost use Rattle.vf_numbered.specs.Steps.{renumbered};
+ghost use Rattle.vf_flow.specs.Named.{naming_of};
+ghost use Rattle.vf_flow.specs.Steps.{renumbered};
 
 use crate::expression::{expression, expressions, optional_expression};
 use crate::naming::Naming;
-use crate::narrowing::narrow;
+use crate::numbers::{StepNumbers, narrow};
 use std::alloc::Global;
 use vf_base::Memory;
 use vf_core::CoreStep;
-use vf_flow::StepNumbers;
 use vf_steps::Action;
 
 /// A number of a local, where there is one.

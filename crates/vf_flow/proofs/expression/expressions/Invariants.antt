@@ -2,8 +2,8 @@ use Rattle.std.proofs.Common.{◌≡◌, map, take}
 use Rattle.vf_core.specs.Shown.{expressions_of}
 use Rattle.vf_steps.specs.Core.{expression_tree}
 use Rattle.vf_steps.specs.Shown.{values_of}
-use Rattle.vf_numbered.specs.Shown.{naming_of}
-use Rattle.vf_numbered.proofs.expression.expressions.Given as goal
+use Rattle.vf_flow.specs.Named.{naming_of}
+use Rattle.vf_flow.proofs.expression.expressions.Given as goal
 
 -- those so far are the first
 abbrev pub invariant-loop-value : goal.invariant-loop-value

@@ -4,7 +4,7 @@ use Rattle.vf_tree.specs.Core.{Identity}
 use Rattle.vf_core.specs.Shown.{identity_of}
 use Rattle.vf_core.specs.declared.words.Name.{Name}
 use Rattle.vf_steps.specs.Core.{Identities}
-use Rattle.vf_numbered.specs.declared.naming.Naming.{Naming}
+use Rattle.vf_flow.specs.declared.naming.Naming.{Naming}
 
 -- the identities that names stand for by a table
 abbrev pub identities : List Identity → List Name → List Identity

@@ -7,7 +7,7 @@ use Rattle.vf_steps.specs.Core.{Identities, step_tree}
 use Rattle.vf_steps.specs.declared.action.Node.{Node}
 use Rattle.vf_steps.specs.Shown.{node_of, nodes_of}
 use Rattle.vf_steps.specs.Tree.{NodeTree}
-use Rattle.vf_numbered.specs.Steps.{renumbered, steps_from}
+use Rattle.vf_flow.specs.Steps.{renumbered, steps_from}
 
 -- what is left at a node begins with it
 left_at : {A : Type 0} (xs : List A) (i : ℕ) (x : A) → slice_get xs i ≡ Some x → drop i xs ≡ x ∷ drop (i + 1) xs

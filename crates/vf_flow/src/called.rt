@@ -3,10 +3,10 @@
 ghost use Rattle.std.specs.Prelude.{◌≡◌, ◌<◌, length, map, IfOk, slice_get};
 ghost use Rattle.vf_core.specs.Shown.{field_of, identity_of, signature_of, type_of};
 ghost use Rattle.vf_steps.specs.Core.{field_tree, identity_at, signature_tree, type_tree};
-ghost use Rattle.vf_numbered.specs.Shown.{identities, naming_of};
+ghost use Rattle.vf_flow.specs.Named.{identities, naming_of};
 
 use crate::naming::Naming;
-use crate::narrowing::narrow;
+use crate::numbers::narrow;
 use std::alloc::Global;
 use vf_base::{Memory, Sequence, Text};
 use vf_core::{Field, Name, Scalar, Signature};

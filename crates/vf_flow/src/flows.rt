@@ -2,11 +2,11 @@
 
 ghost use Rattle.std.specs.Prelude.{◌≡◌, IfOk};
 ghost use Rattle.vf_steps.specs.Shown.{action_of, nodes_of};
-ghost use Rattle.vf_numbered.specs.Steps.{flow_of, flows_of};
+ghost use Rattle.vf_flow.specs.Steps.{flow_of, flows_of};
 
+use crate::flow::Flow;
 use std::alloc::Global;
 use vf_base::{Memory, Sequence};
-use vf_flow::Flow;
 use vf_steps::{Action, Node};
 
 /// What a node that does something is to the machine.
@@ -23,7 +23,7 @@ fn flow_of(action: &Action<'_>) -> Flow
 }
 
 /// What the nodes of a body are to the machine.
-pub fn flows(alloc: Global, nodes: &Vec<Node<'_>>) -> Result<Sequence<Flow>, Memory>
+pub fn node_flows(alloc: Global, nodes: &Vec<Node<'_>>) -> Result<Sequence<Flow>, Memory>
     ensures { IfOk result (λ fs. fs ≡ flows_of (nodes_of nodes.now.items)) }
 {
     let mut all = Sequence::new(alloc);

@@ -1,8 +1,8 @@
 use Rattle.std.proofs.Common.{◌≡◌, map, take}
 use Rattle.vf_core.specs.Shown.{type_of}
 use Rattle.vf_steps.specs.Core.{type_tree}
-use Rattle.vf_numbered.specs.Shown.{naming_of}
-use Rattle.vf_numbered.proofs.naming.Naming.scalars.Given as goal
+use Rattle.vf_flow.specs.Named.{naming_of}
+use Rattle.vf_flow.proofs.naming.Naming.scalars.Given as goal
 
 -- those so far are the first
 abbrev pub invariant-loop-ctype : goal.invariant-loop-ctype

@@ -2,10 +2,10 @@ use Rattle.std.proofs.Common.{ℕ, ap, ◌∙◌}
 use Rattle.vf_steps.specs.Shown.{nodes_of}
 use Rattle.vf_flow.specs.Leads.{step_number}
 use Rattle.vf_flow.specs.Shown.{number_in}
-use Rattle.vf_numbered.specs.Shown.{naming_of}
-use Rattle.vf_numbered.specs.Steps.{number_of}
-use Rattle.vf_numbered.proofs.Making.{steps_same}
-use Rattle.vf_numbered.proofs.steps.make_steps.Goals as goal
+use Rattle.vf_flow.specs.Named.{naming_of}
+use Rattle.vf_flow.specs.Steps.{number_of}
+use Rattle.vf_flow.proofs.Making.{steps_same}
+use Rattle.vf_flow.proofs.steps.make_steps.Goals as goal
 
 pub returns : goal.returns
 returns c =

@@ -3,10 +3,10 @@ use Rattle.std.proofs.lemmas.List.{length-map}
 use Rattle.std.proofs.lemmas.Option.{slice_get_read}
 use Rattle.vf_core.specs.Shown.{step_of}
 use Rattle.vf_steps.specs.Shown.{node_of, nodes_of}
-use Rattle.vf_numbered.specs.Shown.{naming_of}
+use Rattle.vf_flow.specs.Named.{naming_of}
 use Rattle.vf_flow.specs.Shown.{number_in}
-use Rattle.vf_numbered.proofs.Making.{shown_at, steps_end, steps_more}
-use Rattle.vf_numbered.proofs.steps.all_steps.Goals as goal
+use Rattle.vf_flow.proofs.Making.{shown_at, steps_end, steps_more}
+use Rattle.vf_flow.proofs.steps.all_steps.Goals as goal
 
 pub loop-at-preserved : goal.loop-at-preserved
 loop-at-preserved c =

@@ -5,16 +5,17 @@ ghost use Rattle.vf_core.specs.Shown.{step_of};
 ghost use Rattle.vf_steps.specs.Core.{step_tree};
 ghost use Rattle.vf_steps.specs.Shown.{action_of, nodes_of};
 ghost use Rattle.vf_flow.specs.Shown.{number_in};
-ghost use Rattle.vf_numbered.specs.Shown.{naming_of};
-ghost use Rattle.vf_numbered.specs.Steps.{number_of, renumbered, steps_from, steps_of};
+ghost use Rattle.vf_flow.specs.Named.{naming_of};
+ghost use Rattle.vf_flow.specs.Steps.{number_of, renumbered, steps_from, steps_of};
 
-use crate::flows::flows;
+use crate::flows::node_flows;
+use crate::follow::number_nodes;
 use crate::naming::Naming;
+use crate::numbers::StepNumbers;
 use crate::step::core_step;
 use std::alloc::Global;
 use vf_base::{Memory, Sequence};
 use vf_core::CoreStep;
-use vf_flow::{StepNumbers, number_nodes};
 use vf_steps::Node;
 
 /// The steps of a body, and the number of the step that each of its nodes leads to.
@@ -70,7 +71,7 @@ pub fn make_steps(
     ensures steps { IfOk result (λ b. map (step_of naming.now.names.now) b.steps ≡ steps_of (naming_of naming.now) (nodes_of nodes.now.items)) }
     ensures numbers { IfOk result (λ b. (i : ℕ) → number_in b.numbers i ≡ number_of (nodes_of nodes.now.items) i) }
 {
-    let flows = flows(alloc, nodes)?;
+    let flows = node_flows(alloc, nodes)?;
     let numbers = number_nodes(alloc, &flows)?;
     let steps = all_steps(alloc, naming, &numbers, nodes)?;
     Ok(BodySteps { steps, numbers })

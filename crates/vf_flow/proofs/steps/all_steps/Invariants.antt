@@ -1,10 +1,10 @@
 use Rattle.std.proofs.Common.{◌≡◌, ◌++◌, drop, map}
 use Rattle.vf_core.specs.Shown.{step_of}
 use Rattle.vf_steps.specs.Shown.{nodes_of}
-use Rattle.vf_numbered.specs.Shown.{naming_of}
+use Rattle.vf_flow.specs.Named.{naming_of}
 use Rattle.vf_flow.specs.Shown.{number_in}
-use Rattle.vf_numbered.specs.Steps.{steps_from}
-use Rattle.vf_numbered.proofs.steps.all_steps.Given as goal
+use Rattle.vf_flow.specs.Steps.{steps_from}
+use Rattle.vf_flow.proofs.steps.all_steps.Given as goal
 
 -- the steps so far, and those of the nodes that are left, are all
 abbrev pub invariant-loop-at : goal.invariant-loop-at
