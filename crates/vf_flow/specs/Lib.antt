@@ -3,3 +3,4 @@ pub mod Tables
 pub mod Shown
 pub mod Steps
 pub mod Named
+pub mod Laws
