@@ -3,3 +3,4 @@ pub mod WordLaws
 pub mod LineLaws
 pub mod ManifestLaws
 pub mod SortLaws
+pub mod OrderLaws
