@@ -4,3 +4,4 @@ pub mod LineLaws
 pub mod ManifestLaws
 pub mod SortLaws
 pub mod OrderLaws
+pub mod Trees

@@ -7,7 +7,7 @@
 //!
 //! What is written reads back. A text stands for one manifest at most ([`one_reading`]). The texts of a manifest's lines
 //! stand in the order of bytes, each once ([`texts_ascend`]). What a lemma's signature may have is said by what may
-//! stand next, byte for byte, and not by trees of sorts.
+//! stand next, byte for byte; each tree of sorts is read so ([`trees_are_read`]), and that nothing else is has no proof.
 #![tactic(auto)]
 
 mod fault;
@@ -24,6 +24,7 @@ pub use fault::ManifestFault;
 pub use hashing::digest;
 pub use line::{Identity, Line, Version};
 pub use manifest::{MOST_BYTES, Manifest, one_reading, read_manifest, texts_ascend};
+pub use signature::trees_are_read;
 pub use spelling::write_manifest;
 
 #[cfg(test)]
