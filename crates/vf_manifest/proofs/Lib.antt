@@ -3,3 +3,5 @@ pub mod WordLaws
 pub mod LineLaws
 pub mod ManifestLaws
 pub mod SortLaws
+pub mod OrderLaws
+pub mod Trees

@@ -4,3 +4,4 @@ pub mod Signatures
 pub mod Lines
 pub mod Manifests
 pub mod Reading
+pub mod Trees

@@ -4,6 +4,10 @@
 //! once. [`write_manifest`] gives the text of a manifest in version 2. [`read_manifest`] reads a text of version 1 or
 //! 2: its answer is the manifest that the text stands for, or the first line at which the text is that of no manifest.
 //! A signature that version 1 does not tell is `?`. [`digest`] is what a manifest says of a header's bytes.
+//!
+//! What is written reads back. A text stands for one manifest at most ([`one_reading`]). The texts of a manifest's lines
+//! stand in the order of bytes, each once ([`texts_ascend`]). What a lemma's signature may have is said by what may
+//! stand next, byte for byte; each tree of sorts is read so ([`trees_are_read`]), and that nothing else is has no proof.
 #![tactic(auto)]
 
 mod fault;
@@ -19,7 +23,8 @@ mod words;
 pub use fault::ManifestFault;
 pub use hashing::digest;
 pub use line::{Identity, Line, Version};
-pub use manifest::{MOST_BYTES, Manifest, one_reading, read_manifest};
+pub use manifest::{MOST_BYTES, Manifest, one_reading, read_manifest, texts_ascend};
+pub use signature::trees_are_read;
 pub use spelling::write_manifest;
 
 #[cfg(test)]

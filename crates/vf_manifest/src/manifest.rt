@@ -1,11 +1,11 @@
 //! Reading a manifest.
 
-ghost use Rattle.std.specs.Prelude.{◌≡◌, ◌≤◌, [], ◌∷◌, ◌++◌, ℕ, List, length, IfOk, IfErr, IfSome, IfNone};
+ghost use Rattle.std.specs.Prelude.{◌≡◌, ◌≤◌, [], ◌∷◌, ◌++◌, ℕ, List, length, IfOk, IfErr, IfSome, IfNone, map};
 ghost use Rattle.vf_manifest.specs.declared.line.Line as declared_line;
 ghost use Rattle.vf_manifest.specs.Words.{is_identity, is_own_identity};
 ghost use Rattle.vf_manifest.specs.declared.line.Version.TheVariants as versions;
 ghost use Rattle.vf_manifest.specs.Lines.{key, signature_part, spelled};
-ghost use Rattle.vf_manifest.specs.Manifests.{IsManifest, IsManifestText, HasFault, NoHead, IfSyntax, head};
+ghost use Rattle.vf_manifest.specs.Manifests.{Ascends, IsManifest, IsManifestText, HasFault, NoHead, IfSyntax, head};
 ghost use Rattle.vf_manifest.specs.Reading.{Gives, pair_at, placed_at, signed_at, located_at, instance_at, used_at, words_at, line_at};
 
 use crate::fault::{ManifestFault, WordFault};
@@ -264,4 +264,10 @@ pub fn one_reading()
         → IsManifestText text first → IsManifestText text second → first ≡ second }
     ensures never_both { (text : List ℕ) (number : ℕ) (lines : List declared_line.Line)
         → HasFault text number → IsManifestText text lines → ⊥ }
+{}
+
+/// The texts of a manifest's lines stand in the order of bytes, each once.
+pub fn texts_ascend()
+    ensures { (lines : List declared_line.Line) → IsManifest lines
+        → Ascends [] (map (spelled versions.Second) lines) }
 {}

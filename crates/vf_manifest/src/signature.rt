@@ -1,11 +1,12 @@
 //! Signatures of functions and lemmas.
 
-ghost use Rattle.std.specs.Prelude.{◌≡◌, ◌==◌, ◌≤◌, ◌&&◌, not, [], ◌∷◌, length, reverse, IfOk};
+ghost use Rattle.std.specs.Prelude.{◌≡◌, ◌==◌, ◌≤◌, ◌&&◌, true, not, ℕ, List, [], ◌∷◌, ◌++◌, length, reverse, IfOk};
 ghost use Rattle.std.specs.Char.{is_ascii_digit};
 ghost use Rattle.std.specs.List.{list_all, prefix_len, slice_split};
 ghost use Rattle.std.specs.Option.{option_map};
 ghost use Rattle.vf_manifest.specs.declared.signature.Stage.TheVariants as stages;
 ghost use Rattle.vf_manifest.specs.Reading.{Gives, tested};
+ghost use Rattle.vf_manifest.specs.Trees.{Sorts, are_good, sorts_text};
 ghost use Rattle.vf_manifest.specs.Words.{is_visible};
 ghost use Rattle.vf_manifest.specs.Signatures.{is_empty, is_starred_name, is_pointer_type, is_type, are_types, is_function, is_numeral, is_at_most, is_parameter, is_datatype, is_sort_word, is_sort_byte, can_begin, ends_sort, ends_none, closes, next, are_sorts, is_lemma, is_signature};
 
@@ -323,3 +324,9 @@ pub fn signature(alloc: Global, text: &[u8]) -> Result<Text, WordFault>
     }
     Ok(Text::from_bytes(alloc, text)?)
 }
+
+/// The signature of a lemma, as a tree of sorts spells it, is read.
+pub fn trees_are_read()
+    ensures { (parameters : List ℕ) (sorts : Sorts) → are_good parameters sorts ≡ true
+        → are_sorts parameters stages.BeginsOrEnds [] (41 ∷ []) (sorts_text sorts ++ 41 ∷ []) ≡ true }
+{}
