@@ -6,7 +6,7 @@ use Rattle.vf_tree.specs.Core.{Identity}
 use Rattle.vf_model.specs.Values.{Values, same_identity, none, more}
 use Rattle.vf_model.specs.Values as values
 use Rattle.vf_model.proofs.Equality.{identities_told}
-use Rattle.vf_meaning.specs.Ghost.{Integers, Truths, Anything, Numbered, CaseTree, FixpointTree}
+use Rattle.vf_meaning.specs.Ghost.{Integers, Truths, Anything, Numbered, ConstructorTree, CaseTree, FixpointTree}
 use Rattle.vf_meaning.specs.Structural.{AreOrdered, Applies, BodyApplies, IsStructural}
 use Rattle.vf_meaning.specs.Assertions.{Environment}
 use Rattle.vf_meaning.specs.Environments.{Extends, SomeUnit, IsLinked}
@@ -144,9 +144,11 @@ list_extends = record {
   predicates = λ q k e. e;
   bodies = λ b k e. e;
   functions = λ g k e. e;
+  prototypes = λ g k e. e;
   types = λ c k e. e;
   called = λ g n c e. e;
-  leaks = λ g n e. e;
+  leaks = λ text e. e;
+  calls = λ text g e. e;
 }
 
 other_extends : Extends other_unit list_unit
@@ -157,15 +159,22 @@ other_extends = record {
   predicates = λ q k e. e;
   bodies = λ b k e. e;
   functions = λ g k e. e;
+  prototypes = λ g k e. e;
   types = λ c k e. e;
   called = λ g n c e. e;
-  leaks = λ g n e. e;
+  leaks = λ text e. e;
+  calls = λ text g e. e;
 }
 
 each_extends : (u : Environment) → Contains list_units u → Extends u list_unit
 each_extends u (zero, low, is) = subst (λ (x : Environment). Extends x list_unit) is list_extends
 each_extends u (suc zero, low, is) = subst (λ (x : Environment). Extends x list_unit) is other_extends
 each_extends u (suc (suc k), low, is) = no_third k low
+
+closed : (u : Environment) → Contains list_units u → (c d : Identity) (k j : ConstructorTree) → list_unit.constructors c ≡ Some k → u.constructors d ≡ Some j → k.datatype ≡ j.datatype → u.constructors c ≡ Some k
+closed u (zero, low, is) c d k j known of same = subst (λ (x : Environment). x.constructors c ≡ Some k) is known
+closed u (suc zero, low, is) c d k j known of same = subst (λ (x : Environment). x.constructors c ≡ Some k) is known
+closed u (suc (suc n), low, is) c d k j known of same = no_third n low
 
 the_first : (P : Environment → Type 0) → P list_unit → SomeUnit list_units P
 the_first P e = (list_unit, (0, omega arith, refl), e)
@@ -174,15 +183,18 @@ lists_linked : IsLinked list_units list_unit
 lists_linked = record {
   all = each_extends;
   ordered = lists_ordered;
+  closed = closed;
   constructors = λ c k e. the_first (λ u. u.constructors c ≡ Some k) e;
   fixpoints = λ k e. the_first (λ u. Contains u.fixpoints k) e;
   claims = λ g c e. the_first (λ u. IsTrue (u.claims g c)) e;
   predicates = λ q k e. the_first (λ u. u.predicates q ≡ Some k) e;
   bodies = λ b k e. the_first (λ u. u.bodies b ≡ Some k) e;
   functions = λ g k e. the_first (λ u. u.functions g ≡ Some k) e;
+  prototypes = λ g k e. the_first (λ u. u.prototypes g ≡ Some k) e;
   types = λ c k e. the_first (λ u. u.types c ≡ Some k) e;
   called = λ g n c e. the_first (λ u. u.called g n ≡ Some c) e;
-  leaks = λ g n e. the_first (λ u. IsTrue (u.leaks g n)) e;
+  leaks = λ text e. the_first (λ u. IsTrue (u.leaks text)) e;
+  calls = λ text g e. the_first (λ u. IsTrue (u.calls text g)) e;
 }
 
 -- ---- the question

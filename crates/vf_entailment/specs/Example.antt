@@ -128,9 +128,11 @@ with_fixpoints fs = record {
   predicates = λ q. None;
   bodies = λ b. None;
   functions = λ g. None;
+  prototypes = λ g. None;
   types = λ t. None;
   called = λ g n. None;
-  leaks = λ g n. false;
+  leaks = λ text. false;
+  calls = λ text g. false;
 }
 
 -- the environment of the unit, and that of another unit which sees `length` and `append` alone

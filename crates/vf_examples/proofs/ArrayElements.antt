@@ -160,7 +160,7 @@ read_body =
 
 get_is_accepted : IsAcceptedFunction arrays array_program get get_contract
 get_is_accepted = record {
-  contract = record { known = refl; parameters = refl; fewer = omega arith; inhabited = get_inhabited };
+  contract = record { known = inl refl; parameters = refl; fewer = omega arith; inhabited = get_inhabited };
   outs = record { store = read_store; state = read_produced } ∷ [];
   produced = (
     nothing_bound read_names,
@@ -256,7 +256,7 @@ write_body =
 
 put_is_accepted : IsAcceptedFunction arrays array_program put put_contract
 put_is_accepted = record {
-  contract = record { known = refl; parameters = refl; fewer = omega arith; inhabited = put_inhabited };
+  contract = record { known = inl refl; parameters = refl; fewer = omega arith; inhabited = put_inhabited };
   outs = record { store = write_store; state = write_produced } ∷ [];
   produced = (
     nothing_bound write_names,

@@ -7,6 +7,7 @@ use Rattle.vf_meaning.specs.Fractions.{whole, product}
 use Rattle.vf_meaning.specs.Ghost.{Sort, Name, Integers, Pointers, Fractions, Numbered, CurrentThread, Number, Arithmetic, PointerSum, Compare, Fraction, Share}
 use Rattle.vf_meaning.specs.Chunks.{list_of}
 use Rattle.vf_meaning.specs.Sorts.{HasSort}
+use Rattle.vf_meaning.proofs.Linking.{never_leaks}
 use Rattle.vf_rules.specs.Terms.{Term, Store, stored}
 use Rattle.vf_rules.specs.States.{Fact, Holds, OfSort, SymbolicChunk, SymbolicState, Entails}
 use Rattle.vf_rules.specs.Fresh.{symbol, IsNew}
@@ -227,7 +228,7 @@ ends =
 
 body : Proves arrays no_program lemmas split_none 0 [] begun
 body =
-    may_call_held {st = begun} ints_split passed (record { store = call_names; state = after_call } ∷ []) split_holds (λ h. h) inhabited refl arguments_sorted (
+    may_call_held {st = begun} ints_split passed (record { store = call_names; state = after_call } ∷ []) split_holds (λ leaks. absurd (never_leaks arrays (λ text. refl) leaks)) inhabited refl arguments_sorted (
       nothing_bound (call_store passed),
       (
         begun,

@@ -3,7 +3,7 @@ use Rattle.std.specs.Prelude.{IsTrue, false}
 use Rattle.std.proofs.Common.{◌≡◌, ◌≢◌, ℕ, zero, suc, pos, Bool, true, not, List, [], ◌∷◌, slice_get, Some, None, refl, sym, ap, subst, ◌∙◌, ◌⊎◌, inl, inr, arith}
 use Rattle.std.proofs.lemmas.Bool.{false≢true}
 use Rattle.vf_base.specs.declared.int_type.IntType.TheVariants as types
-use Rattle.vf_tree.specs.Core.{TypeTree, Void, Integer, Equal, NotEqual, FunctionTree}
+use Rattle.vf_tree.specs.Core.{TypeTree, Void, Integer, Equal, NotEqual}
 use Rattle.vf_tree.specs.Core as core
 use Rattle.vf_model.specs.Values as values
 use Rattle.vf_meaning.specs.Ghost.{Pointers, Name, Numbered, Result, This, CurrentThread, Null, Number, Truth, Compare}
@@ -25,6 +25,7 @@ use Rattle.vf_rules.proofs.Takes.{equal_met}
 use Rattle.vf_rules.specs.GhostSteps.{no_step}
 use Rattle.vf_safety.specs.Laws.{AreAccepted}
 use Rattle.vf_examples.specs.BoxProgram.{somewhere, box_name, content, box_main, box_program, box_contract, box_environment, BoxIsAccepted}
+use Rattle.vf_examples.proofs.Defined.{only_defined}
 
 some_same : {A : Type 0} {x y : A} → Some x ≡ Some y → x ≡ y
 some_same e = cc
@@ -128,7 +129,7 @@ body = do_allocate 0 box_name 1 0 refl fresh null_way granted_way
 
 -- ---- the program
 has_contract : HasContract box_environment box_main box_contract
-has_contract = record { known = refl; parameters = refl; fewer = omega arith; inhabited = λ k s h. none_some h }
+has_contract = record { known = inl refl; parameters = refl; fewer = omega arith; inhabited = λ k s h. none_some h }
 
 bound_truth : (s : terms.Store) (x : Name) → ⊥ → (u : Term) × (s x ≡ Some u)
 bound_truth s x u = absurd u
@@ -147,11 +148,8 @@ accepted_main = record {
     outcome s st (inr never) = absurd never
 
 all_accepted : AreAccepted box_environment box_program
-all_accepted zero f k is has =
-    let f_is : box_main ≡ f = some_same is in
-    let k_is : box_contract ≡ k = some_same (subst (λ (z : FunctionTree). box_environment.functions z.identity ≡ Some k) (sym f_is) has.known) in
-    subst (λ z. IsAcceptedFunction box_environment box_program z k) f_is (subst (λ z. IsAcceptedFunction box_environment box_program box_main z) k_is accepted_main)
-all_accepted (suc n) f k is has = none_some is
+all_accepted zero f is = only_defined box_environment box_program box_main box_contract refl refl accepted_main f (some_same is)
+all_accepted (suc n) f is = none_some is
 
 no_claim : IsTrue false → ⊥
 no_claim h = cc
@@ -163,6 +161,7 @@ box_is_accepted = record {
   main = box_main;
   is_main = refl;
   contract = box_contract;
+  is_own = refl;
   has = has_contract;
   alone = refl;
   begins = no_step (λ x t is. is, (bound_truth (call_store []), record { by = λ v m. refl }, refl));

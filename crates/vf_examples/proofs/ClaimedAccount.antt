@@ -16,7 +16,7 @@ use Rattle.vf_rules.specs.Fresh.{symbol}
 use Rattle.vf_rules.specs.Take.{takes_all, no_change}
 use Rattle.vf_rules.specs.Accept.{all_of_it, call_store, pointer_store, beginning, HasContract, Accepts, do_return, IsAcceptedFunction}
 use Rattle.vf_rules.specs.GhostSteps.{AfterGhostSteps, no_step, may_see}
-use Rattle.vf_rules.specs.Claims.{before_claim, Ends, StandsIn, Refines, KeepsClaim}
+use Rattle.vf_rules.specs.Claims.{before_claim, Ends, StandsIn, RefinesType, KeepsClaim}
 use Rattle.vf_rules.proofs.Terms.{stored_own, stored_grows}
 use Rattle.vf_examples.specs.Claiming.{account, audit_name, audit, claiming_program, audit_contract, auditor_contract, claiming_environment}
 use Rattle.vf_examples.proofs.NewSymbols.{fresh_stored, fresh_call, fresh_state, new_symbol}
@@ -75,7 +75,7 @@ returns =
     )
 
 pub audit_has : HasContract claiming_environment audit audit_contract
-audit_has = record { known = refl; parameters = refl; fewer = omega arith; inhabited = plain_inhabited audit_contract.sorts (tt, (tt, tt)) }
+audit_has = record { known = inl refl; parameters = refl; fewer = omega arith; inhabited = plain_inhabited audit_contract.sorts (tt, (tt, tt)) }
 
 pub audit_accepted : IsAcceptedFunction claiming_environment claiming_program audit audit_contract
 audit_accepted = record {
@@ -186,7 +186,7 @@ stands_in = (
 seen : Shows claiming_environment (claimed type_names (account_there ∷ []) path0) (OfSort (symbol 1) Integers)
 seen = record { by = λ v locals names p stands. account_sorted v p stands.chunks_mean }
 
-refines : Refines claiming_environment claiming_program audit audit_contract auditor_contract audit_name
+refines : RefinesType claiming_environment claiming_program audit audit_contract auditor_contract audit_name
 refines = record {
   parameters = refl;
   outs = record { store = type_names; state = claimed (call_store arguments) (account_there ∷ []) path0 } ∷ [];
@@ -210,4 +210,4 @@ refines = record {
 }
 
 pub audit_keeps : KeepsClaim claiming_environment claiming_program audit_name auditor_contract
-audit_keeps = record { number = 2; function = audit; named = refl; is = refl; own = audit_contract; has = audit_has; refines = refines }
+audit_keeps = record { number = 2; function = audit; named = refl; is = refl; own = audit_contract; is_own = refl; has = audit_has; refines = refines }

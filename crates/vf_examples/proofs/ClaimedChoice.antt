@@ -12,7 +12,7 @@ use Rattle.vf_rules.specs.Take.{same, takes_all, takes_later, removes_here, no_c
 use Rattle.vf_rules.specs.Laws.{Grows}
 use Rattle.vf_rules.specs.Accept.{all_of_it, call_store, pointer_store, beginning, HasContract, AreFixed, Accepts, do_load, do_return, IsAcceptedFunction}
 use Rattle.vf_rules.specs.GhostSteps.{AfterGhostSteps, no_step, may_split}
-use Rattle.vf_rules.specs.Claims.{Ends, StandsIn, Refines, KeepsClaim}
+use Rattle.vf_rules.specs.Claims.{Ends, StandsIn, RefinesType, KeepsClaim}
 use Rattle.vf_rules.proofs.Terms.{stored_own, stored_grows}
 use Rattle.vf_examples.specs.BoxProgram.{somewhere}
 use Rattle.vf_examples.specs.Claiming.{balance, read_name, read, claiming_program, read_contract, reader_contract, claiming_environment}
@@ -87,7 +87,7 @@ loads =
     (same_self claiming_environment body_path (symbol 0)) returns
 
 pub read_has : HasContract claiming_environment read read_contract
-read_has = record { known = refl; parameters = refl; fewer = omega arith; inhabited = plain_inhabited read_contract.sorts (tt, (tt, (tt, (tt, tt)))) }
+read_has = record { known = inl refl; parameters = refl; fewer = omega arith; inhabited = plain_inhabited read_contract.sorts (tt, (tt, (tt, (tt, tt)))) }
 
 pub read_accepted : IsAcceptedFunction claiming_environment claiming_program read read_contract
 read_accepted = record {
@@ -372,7 +372,7 @@ second_stands_in = (
   ),
 )
 
-refines : Refines claiming_environment claiming_program read read_contract reader_contract read_name
+refines : RefinesType claiming_environment claiming_program read read_contract reader_contract read_name
 refines = record {
   parameters = refl;
   outs = record { store = names; state = claimed (call_store arguments) (cell (symbol 1) (symbol 3) ∷ cell (symbol 2) (symbol 4) ∷ []) claim_path } ∷ [];
@@ -409,4 +409,4 @@ refines = record {
 }
 
 pub read_keeps : KeepsClaim claiming_environment claiming_program read_name reader_contract
-read_keeps = record { number = 3; function = read; named = refl; is = refl; own = read_contract; has = read_has; refines = refines }
+read_keeps = record { number = 3; function = read; named = refl; is = refl; own = read_contract; is_own = refl; has = read_has; refines = refines }

@@ -10,7 +10,7 @@ use Rattle.vf_rules.specs.Take.{takes_all, no_change}
 use Rattle.vf_rules.specs.Laws.{Grows}
 use Rattle.vf_rules.specs.Accept.{all_of_it, call_store, pointer_store, HasContract, Accepts, do_return, IsAcceptedFunction}
 use Rattle.vf_rules.specs.GhostSteps.{AfterGhostSteps, no_step}
-use Rattle.vf_rules.specs.Claims.{before_claim, Ends, StandsIn, Refines, KeepsClaim}
+use Rattle.vf_rules.specs.Claims.{before_claim, Ends, StandsIn, RefinesType, KeepsClaim}
 use Rattle.vf_rules.proofs.Terms.{stored_own, stored_grows}
 use Rattle.vf_examples.specs.BoxProgram.{somewhere}
 use Rattle.vf_examples.specs.Claiming.{ints, ints_list, count_name, count, claiming_program, not_negative, count_contract, counter_contract, claiming_environment}
@@ -40,7 +40,7 @@ returns =
     (second_bound (stored (call_store arguments) Result (symbol 1)) Result (symbol 1) refl, by_place claiming_environment path1 6 (Holds (not_negative (symbol 1))) refl, (refl, keeps_result count_contract (call_store arguments) (symbol 1)))
 
 pub count_has : HasContract claiming_environment count count_contract
-count_has = record { known = refl; parameters = refl; fewer = omega arith; inhabited = plain_inhabited count_contract.sorts (tt, (tt, tt)) }
+count_has = record { known = inl refl; parameters = refl; fewer = omega arith; inhabited = plain_inhabited count_contract.sorts (tt, (tt, tt)) }
 
 pub count_accepted : IsAcceptedFunction claiming_environment claiming_program count count_contract
 count_accepted = record {
@@ -128,7 +128,7 @@ stands_in = (
   ),
 )
 
-refines : Refines claiming_environment claiming_program count count_contract counter_contract count_name
+refines : RefinesType claiming_environment claiming_program count count_contract counter_contract count_name
 refines = record {
   parameters = refl;
   outs = record { store = names; state = claimed (call_store arguments) (row_there ∷ []) known_path } ∷ [];
@@ -156,4 +156,4 @@ refines = record {
 }
 
 pub count_keeps : KeepsClaim claiming_environment claiming_program count_name counter_contract
-count_keeps = record { number = 1; function = count; named = refl; is = refl; own = count_contract; has = count_has; refines = refines }
+count_keeps = record { number = 1; function = count; named = refl; is = refl; own = count_contract; is_own = refl; has = count_has; refines = refines }

@@ -2,7 +2,7 @@
 use Rattle.std.specs.Prelude.{IsTrue, ◌&&◌}
 use Rattle.std.proofs.Common.{◌≡◌, zero, suc, pos, Bool, true, false, cond, List, [], ◌∷◌, Some, refl, sym, ap, subst, ◌∙◌, ◌⊎◌, inl, inr, arith}
 use Rattle.std.proofs.lemmas.Bool.{false≢true}
-use Rattle.vf_tree.specs.Core.{Identity, FunctionTree}
+use Rattle.vf_tree.specs.Core.{Identity}
 use Rattle.vf_tree.specs.Core as core
 use Rattle.vf_model.specs.Values.{same_identity}
 use Rattle.vf_model.proofs.Equality.{identities_told}
@@ -21,6 +21,7 @@ use Rattle.vf_examples.proofs.ClaimingFacts.{keeps_result, seven_facts}
 use Rattle.vf_examples.proofs.ClaimedRow.{count_accepted, count_keeps}
 use Rattle.vf_examples.proofs.ClaimedAccount.{audit_accepted, audit_keeps}
 use Rattle.vf_examples.proofs.ClaimedChoice.{read_accepted, read_keeps}
+use Rattle.vf_examples.proofs.Defined.{only_defined}
 
 -- ---- main
 abbrev path : List Fact
@@ -35,7 +36,7 @@ returns =
     (first_bound (stored (call_store []) Result (Number (pos 7))) Result (Number (pos 7)) refl, same_self claiming_environment path (Number (pos 7)), (refl, keeps_result box_contract (call_store []) (Number (pos 7))))
 
 main_has : HasContract claiming_environment claiming_main box_contract
-main_has = record { known = refl; parameters = refl; fewer = omega arith; inhabited = λ k s h. none_some h }
+main_has = record { known = inl refl; parameters = refl; fewer = omega arith; inhabited = λ k s h. none_some h }
 
 main_accepted : IsAcceptedFunction claiming_environment claiming_program claiming_main box_contract
 main_accepted = record {
@@ -46,18 +47,12 @@ main_accepted = record {
 }
 
 -- ---- the functions
-accepted_under : (f : FunctionTree) (own : ContractTree) → claiming_environment.functions f.identity ≡ Some own → IsAcceptedFunction claiming_environment claiming_program f own → (g : FunctionTree) (k : ContractTree) → f ≡ g → HasContract claiming_environment g k
-    → IsAcceptedFunction claiming_environment claiming_program g k
-accepted_under f own known accepted g k same has =
-    subst (λ z. IsAcceptedFunction claiming_environment claiming_program z k) same
-    (subst (λ z. IsAcceptedFunction claiming_environment claiming_program f z) (some_same (sym known ∙ ap (λ (z : FunctionTree). claiming_environment.functions z.identity) same ∙ has.known)) accepted)
-
 all_accepted : AreAccepted claiming_environment claiming_program
-all_accepted zero f k is has = accepted_under claiming_main box_contract refl main_accepted f k (some_same is) has
-all_accepted (suc zero) f k is has = accepted_under count count_contract refl count_accepted f k (some_same is) has
-all_accepted (suc (suc zero)) f k is has = accepted_under audit audit_contract refl audit_accepted f k (some_same is) has
-all_accepted (suc (suc (suc zero))) f k is has = accepted_under read read_contract refl read_accepted f k (some_same is) has
-all_accepted (suc (suc (suc (suc n)))) f k is has = none_some is
+all_accepted zero f is = only_defined claiming_environment claiming_program claiming_main box_contract refl refl main_accepted f (some_same is)
+all_accepted (suc zero) f is = only_defined claiming_environment claiming_program count count_contract refl refl count_accepted f (some_same is)
+all_accepted (suc (suc zero)) f is = only_defined claiming_environment claiming_program audit audit_contract refl refl audit_accepted f (some_same is)
+all_accepted (suc (suc (suc zero))) f is = only_defined claiming_environment claiming_program read read_contract refl refl read_accepted f (some_same is)
+all_accepted (suc (suc (suc (suc n)))) f is = none_some is
 
 -- ---- the claims
 both_true : (a b : Bool) → (a && b) ≡ true → (a ≡ true) × (b ≡ true)
@@ -91,6 +86,7 @@ claiming_is_accepted = record {
   main = claiming_main;
   is_main = refl;
   contract = box_contract;
+  is_own = refl;
   has = main_has;
   alone = refl;
   begins = no_step (λ x t is. is, (nothing_bound (call_store []), record { by = λ v m. refl }, refl));

@@ -28,12 +28,13 @@ use Rattle.vf_rules.specs.Loops.{OfLocal, Changing, facts_of_known, LocalsCome, 
 use Rattle.vf_rules.specs.Accept.{all_of_it, call_store, pointer_store, with_local, receiving, beginning, HasContract, KeepsFixed, AreFixed, Accepts, do_set, do_if, do_call_pointer, do_return, may_enter, may_repeat, IsAcceptedFunction}
 use Rattle.vf_rules.specs.Threads.{HasSignature}
 use Rattle.vf_rules.specs.GhostSteps.{AfterGhostSteps, no_step}
-use Rattle.vf_rules.specs.Claims.{before_claim, StandsIn, Refines, KeepsClaim}
+use Rattle.vf_rules.specs.Claims.{before_claim, StandsIn, RefinesType, KeepsClaim}
 use Rattle.vf_rules.proofs.Terms.{stored_own, stored_grows}
 use Rattle.vf_rules.proofs.Takes.{equal_met}
 use Rattle.vf_safety.specs.Laws.{AreAccepted}
 use Rattle.vf_examples.specs.BoxProgram.{somewhere}
 use Rattle.vf_examples.specs.Counting.{seven_name, constant_name, int_of_nothing, seven, counting_main, counting_program, seven_contract, at_most_three, counting_environment, CountingIsAccepted}
+use Rattle.vf_examples.proofs.Defined.{only_defined}
 
 some_same : {A : Type 0} {x y : A} → Some x ≡ Some y → x ≡ y
 some_same e = cc
@@ -79,7 +80,7 @@ among_one P s0 st0 h s st (inl is) = subst (λ z. P s z) is.1 (subst (λ z. P z 
 among_one P s0 st0 h s st (inr never) = absurd never
 
 seven_has : HasContract counting_environment seven seven_contract
-seven_has = record { known = refl; parameters = refl; fewer = omega arith; inhabited = λ k s h. none_some h }
+seven_has = record { known = inl refl; parameters = refl; fewer = omega arith; inhabited = λ k s h. none_some h }
 
 seven_accepted : IsAcceptedFunction counting_environment counting_program seven seven_contract
 unfolding seven_begun
@@ -339,7 +340,7 @@ body =
 
 -- ---- the program
 main_has : HasContract counting_environment counting_main seven_contract
-main_has = record { known = refl; parameters = refl; fewer = omega arith; inhabited = λ k s h. none_some h }
+main_has = record { known = inl refl; parameters = refl; fewer = omega arith; inhabited = λ k s h. none_some h }
 
 main_accepted : IsAcceptedFunction counting_environment counting_program counting_main seven_contract
 unfolding begun
@@ -351,9 +352,9 @@ main_accepted = record {
 }
 
 all_accepted : AreAccepted counting_environment counting_program
-all_accepted zero f k is has = subst (λ z. IsAcceptedFunction counting_environment counting_program z k) (some_same is) (subst (λ z. IsAcceptedFunction counting_environment counting_program counting_main z) (some_same has.known) main_accepted)
-all_accepted (suc zero) f k is has = subst (λ z. IsAcceptedFunction counting_environment counting_program z k) (some_same is) (subst (λ z. IsAcceptedFunction counting_environment counting_program seven z) (some_same has.known) seven_accepted)
-all_accepted (suc (suc n)) f k is has = none_some is
+all_accepted zero f is = only_defined counting_environment counting_program counting_main seven_contract refl refl main_accepted f (some_same is)
+all_accepted (suc zero) f is = only_defined counting_environment counting_program seven seven_contract refl refl seven_accepted f (some_same is)
+all_accepted (suc (suc n)) f is = none_some is
 
 -- ---- the claim
 before : SymbolicState
@@ -401,7 +402,7 @@ kept_first = no_step (
     no_use (inl u) = u
     no_use (inr u) = u
 
-refines : Refines counting_environment counting_program seven seven_contract seven_contract seven_name
+refines : RefinesType counting_environment counting_program seven seven_contract seven_contract seven_name
 unfolding before
 refines = record {
   parameters = refl;
@@ -416,7 +417,7 @@ claims g type contract claimed of_type =
     let contract_is : seven_contract ≡ contract = some_same (sym (ap counting_environment.types type_is) ∙ of_type) in
     subst (λ z. KeepsClaim counting_environment counting_program g z) contract_is
     (subst (λ z. KeepsClaim counting_environment counting_program z seven_contract) (sym ((identities_told g seven_name).0 (and_left (same_identity g seven_name) (same_identity type constant_name) claimed)))
-    (record { number = 1; function = seven; named = refl; is = refl; own = seven_contract; has = seven_has; refines = refines }))
+    (record { number = 1; function = seven; named = refl; is = refl; own = seven_contract; is_own = refl; has = seven_has; refines = refines }))
   where
     and_right : (a b : Bool) → (a && b) ≡ true → b ≡ true
     and_right true b h = h
@@ -429,6 +430,7 @@ counting_is_accepted = record {
   main = counting_main;
   is_main = refl;
   contract = seven_contract;
+  is_own = refl;
   has = main_has;
   alone = refl;
   begins = no_step (λ x t is. is, (no_name (call_store []), record { by = λ v m. refl }, refl));

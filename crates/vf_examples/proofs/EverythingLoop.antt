@@ -13,6 +13,7 @@ use Rattle.vf_model.specs.PreludeFunctions.{Abort, identity_of}
 use Rattle.vf_meaning.specs.Ghost.{Integers, Pointers, Name, Numbered, Result, This, CurrentThread, Null, Number, Compare, Arithmetic, Not}
 use Rattle.vf_meaning.specs.Valuations.{Valuation, is_same}
 use Rattle.vf_meaning.specs.Assertions.{Named, Plain}
+use Rattle.vf_meaning.specs.Environments.{by_command}
 use Rattle.vf_rules.specs.Terms.{Term, Store, stored}
 use Rattle.vf_rules.specs.States.{Fact, Holds, OfSort, Of, SymbolicChunk, SymbolicState, IsMet, Meets, Entails}
 use Rattle.vf_rules.specs.Fresh.{symbol}
@@ -187,7 +188,7 @@ returns =
 leaks : GoesIn (loop ∷ []) (loop ∷ []) 21 (at (head_locals None) behind_path (nodes_chunk written_share (symbol 0) ∷ []))
 leaks =
     may_leak nodes_of_head (Pointers ∷ []) (store_of (symbol 0 ∷ [])) (record { store = store_of (symbol 0 ∷ []); state = at (head_locals None) behind_path [] } ∷ [])
-    refl (first_sorted behind_path (symbol 0) (by_place everything_environment behind_path 0 (OfSort (symbol 0) Pointers) refl)) (
+    (by_command refl) (first_sorted behind_path (symbol 0) (by_place everything_environment behind_path 0 (OfSort (symbol 0) Pointers) refl)) (
       nothing_bound (store_of (symbol 0 ∷ [])),
       (
         at (head_locals None) behind_path (nodes_chunk written_share (symbol 0) ∷ []),

@@ -2,7 +2,7 @@
 use Rattle.std.specs.Prelude.{IsTrue, ◌&&◌}
 use Rattle.std.proofs.Common.{◌≡◌, ◌≢◌, zero, suc, pos, Bool, true, false, cond, not, List, [], ◌∷◌, Some, None, refl, sym, ap, subst, ◌∙◌, inl, inr, arith}
 use Rattle.std.proofs.lemmas.Bool.{false≢true}
-use Rattle.vf_tree.specs.Core.{Identity, TypeTree, Void, PointerToStruct, FunctionTree}
+use Rattle.vf_tree.specs.Core.{Identity, TypeTree, Void, PointerToStruct}
 use Rattle.vf_tree.specs.Core as core
 use Rattle.vf_model.specs.Values.{same_identity}
 use Rattle.vf_model.specs.Values as values
@@ -16,7 +16,7 @@ use Rattle.vf_rules.specs.Terms.{Term, Store, stored}
 use Rattle.vf_rules.specs.States.{Fact, Holds, OfSort, Of, SymbolicChunk}
 use Rattle.vf_rules.specs.Fresh.{symbol, IsFreshIn}
 use Rattle.vf_rules.specs.Types.{type_of_field, facts_of_type}
-use Rattle.vf_rules.specs.Take.{same, takes_all, takes_part, takes_later, removes_here, removes_later, no_change, and_change, makes_value, replaces_here, replaces_later}
+use Rattle.vf_rules.specs.Take.{takes_all, takes_part, takes_later, removes_here, removes_later, no_change, and_change, makes_value, replaces_here, replaces_later}
 use Rattle.vf_rules.specs.Consume.{EntailsAll}
 use Rattle.vf_rules.specs.Predicates.{store_of, Closes}
 use Rattle.vf_rules.specs.Mutexes.{create_mutex_ghost_arg_name, ghost_arg_body, invariants, creation, acquisition, release}
@@ -36,6 +36,7 @@ use Rattle.vf_examples.proofs.SharedStates.{path1, path2, path3, path4, q, at, i
 use Rattle.vf_examples.proofs.EverythingLoop.{Goes}
 use Rattle.vf_examples.proofs.EverythingEnd.{one_local, two_locals, three_locals, renames, number_facts, takes_last, opened_last, closed_so, joins_it, function_sorted, info_sorted}
 use Rattle.vf_examples.proofs.SharedClaim.{refines}
+use Rattle.vf_examples.proofs.Defined.{only_defined}
 
 -- ---- the mutex is released
 abbrev release_store : Store
@@ -457,7 +458,7 @@ body = do_allocate 0 counter_name 1 0 refl (fresh_state 0 (at (None ∷ None ∷
 
 -- ---- the program
 main_has : HasContract everything_environment everything_main box_contract
-main_has = record { known = refl; parameters = refl; fewer = omega arith; inhabited = λ k s h. none_some h }
+main_has = record { known = inl refl; parameters = refl; fewer = omega arith; inhabited = λ k s h. none_some h }
 
 main_accepted : IsAcceptedFunction everything_environment everything_program everything_main box_contract
 main_accepted = record {
@@ -467,16 +468,10 @@ main_accepted = record {
   body = λ s st among. among_one (λ s st. Goes 0 (record st { names = s })) (call_store []) (at (None ∷ None ∷ None ∷ None ∷ None ∷ None ∷ []) (Holds (Truth true) ∷ []) []) body s st among;
 }
 
-accepted_under : (f : FunctionTree) (own : ContractTree) → everything_environment.functions f.identity ≡ Some own → IsAcceptedFunction everything_environment everything_program f own → (g : FunctionTree) (k : ContractTree) → f ≡ g → HasContract everything_environment g k
-    → IsAcceptedFunction everything_environment everything_program g k
-accepted_under f own known accepted g k same has =
-    subst (λ z. IsAcceptedFunction everything_environment everything_program z k) same
-    (subst (λ z. IsAcceptedFunction everything_environment everything_program f z) (some_same (sym known ∙ ap (λ (z : FunctionTree). everything_environment.functions z.identity) same ∙ has.known)) accepted)
-
 all_accepted : AreAccepted everything_environment everything_program
-all_accepted zero f k is has = accepted_under everything_main box_contract refl main_accepted f k (some_same is) has
-all_accepted (suc zero) f k is has = accepted_under tick tick_contract refl (tick_accepted with_list) f k (some_same is) has
-all_accepted (suc (suc n)) f k is has = none_some is
+all_accepted zero f is = only_defined everything_environment everything_program everything_main box_contract refl refl main_accepted f (some_same is)
+all_accepted (suc zero) f is = only_defined everything_environment everything_program tick tick_contract refl refl (tick_accepted with_list) f (some_same is)
+all_accepted (suc (suc n)) f is = none_some is
 
 both_true : (a b : Bool) → (a && b) ≡ true → (a ≡ true) × (b ≡ true)
 both_true true b h = (refl, h)
@@ -488,7 +483,7 @@ claims g type contract claimed of_type =
     let contract_is : run_joinable ≡ contract = some_same (sym (ap (λ b. cond b (Some run_joinable) None) both.1) ∙ of_type) in
     subst (λ z. KeepsClaim everything_environment everything_program g z) contract_is
     (subst (λ z. KeepsClaim everything_environment everything_program z run_joinable) (sym ((identities_told g tick_name).0 both.0))
-    (record { number = 1; function = tick; named = refl; is = refl; own = tick_contract; has = (tick_has with_list); refines = (refines with_list) }))
+    (record { number = 1; function = tick; named = refl; is = refl; own = tick_contract; is_own = refl; has = (tick_has with_list); refines = (refines with_list) }))
 
 pub everything_is_accepted : EverythingIsAccepted
 everything_is_accepted = record {
@@ -497,6 +492,7 @@ everything_is_accepted = record {
   main = everything_main;
   is_main = refl;
   contract = box_contract;
+  is_own = refl;
   has = main_has;
   alone = refl;
   begins = no_step (λ x t is. is, (nothing_bound (call_store []), record { by = λ v m. refl }, refl));

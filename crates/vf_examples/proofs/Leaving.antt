@@ -16,6 +16,8 @@ use Rattle.vf_meaning.specs.Ghost.{Pointers, Name, Numbered, Result, This, Curre
 use Rattle.vf_meaning.specs.Valuations.{Valuation, is_same}
 use Rattle.vf_meaning.specs.Names.{Uses}
 use Rattle.vf_meaning.specs.Parts.{nothing}
+use Rattle.vf_meaning.specs.Environments.{own_contract, by_command}
+use Rattle.vf_meaning.proofs.Linking.{never_leaks}
 use Rattle.vf_meaning.specs.Kept.{before, Ensures}
 use Rattle.vf_meaning.proofs.FitSteps.{block_here, block_elsewhere}
 use Rattle.vf_rules.specs.Terms.{Term, stored}
@@ -37,6 +39,7 @@ use Rattle.vf_examples.specs.BoxProgram.{somewhere, box_name, content, box_contr
 use Rattle.vf_examples.specs.Leaving.{leaving_main, leaving_program, what_is_left, leaving_environment, LeavingIsAccepted}
 use Rattle.vf_safety.specs.LeakLaws.{MainReturns, OthersHaveEnded, OwnsNothingAtLast, HasNoneShared}
 use Rattle.vf_safety.proofs.LeakLaws.{no_block_is_left}
+use Rattle.vf_examples.proofs.Defined.{only_defined}
 
 some_same : {A : Type 0} {x y : A} → Some x ≡ Some y → x ≡ y
 some_same e = cc
@@ -132,7 +135,7 @@ module _ (st : SymbolicState) (pointer : Entails leaving_environment st.path (Of
 
       by_chunks : Accepts leaving_environment leaving_program leaving_main box_contract [] [] 2 (with_chunks st (cell_chunk content (symbol 0) None ∷ block_chunk box_name (symbol 0) ∷ []))
       by_chunks =
-          may_leak what_is_left (Pointers ∷ []) (store_of (symbol 0 ∷ [])) (record { store = store_of (symbol 0 ∷ []); state = with_chunks st [] } ∷ []) refl (names_sorted) (
+          may_leak what_is_left (Pointers ∷ []) (store_of (symbol 0 ∷ [])) (record { store = store_of (symbol 0 ∷ []); state = with_chunks st [] } ∷ []) (by_command refl) (names_sorted) (
             first_bound (store_of (symbol 0 ∷ [])) (symbol 0) refl,
             (
               _,
@@ -191,7 +194,7 @@ body = do_allocate 0 box_name 1 0 refl fresh null_way granted_way
 
 -- ---- the program
 has_contract : HasContract leaving_environment leaving_main box_contract
-has_contract = record { known = refl; parameters = refl; fewer = omega arith; inhabited = λ k s h. none_some h }
+has_contract = record { known = inl refl; parameters = refl; fewer = omega arith; inhabited = λ k s h. none_some h }
 
 accepted_main : IsAcceptedFunction leaving_environment leaving_program leaving_main box_contract
 unfolding begun
@@ -207,11 +210,8 @@ accepted_main = record {
     outcome s st (inr never) = absurd never
 
 all_accepted : AreAccepted leaving_environment leaving_program
-all_accepted zero f k is has =
-    let f_is : leaving_main ≡ f = some_same is in
-    let k_is : box_contract ≡ k = some_same (subst (λ (z : FunctionTree). leaving_environment.functions z.identity ≡ Some k) (sym f_is) has.known) in
-    subst (λ z. IsAcceptedFunction leaving_environment leaving_program z k) f_is (subst (λ z. IsAcceptedFunction leaving_environment leaving_program leaving_main z) k_is accepted_main)
-all_accepted (suc n) f k is has = none_some is
+all_accepted zero f is = only_defined leaving_environment leaving_program leaving_main box_contract refl refl accepted_main f (some_same is)
+all_accepted (suc n) f is = none_some is
 
 no_claim : IsTrue false → ⊥
 no_claim h = cc
@@ -271,7 +271,7 @@ none_shared = record {
 
 owns_nothing : OwnsNothingAtLast box_environment leaving_program
 owns_nothing main contract is_main of_main names result q ensured =
-    let contract_is : box_contract ≡ contract = some_same (ap (λ (z : FunctionTree). box_environment.functions z.identity) (some_same is_main) ∙ of_main) in
+    let contract_is : box_contract ≡ contract = some_same (ap (λ (z : FunctionTree). own_contract box_environment z.identity) (some_same is_main) ∙ of_main) in
     empty (subst (λ k. Ensures box_environment k names result q) (sym contract_is) ensured)
   where
     empty : Ensures box_environment box_contract names result q → q ≡ nothing
@@ -280,7 +280,7 @@ owns_nothing main contract is_main of_main names result q ensured =
 unleaked_refused : IsAcceptedProgram box_environment leaving_program → ⊥
 unleaked_refused accepted =
     let b = granted_block finite.empty 1 in
-    none_some (sym (no_block_is_left box_environment leaving_program accepted (λ number f n is. refl) owns_nothing the_events 2 (Some (values.Number (pos 7))) main_returns one_thread none_shared b) ∙ ap (λ z. block_at z b) memory_is ∙ struct_there b)
+    none_some (sym (no_block_is_left box_environment leaving_program accepted (λ number f n is leaks. never_leaks box_environment (λ text. refl) leaks) owns_nothing the_events 2 (Some (values.Number (pos 7))) main_returns one_thread none_shared b) ∙ ap (λ z. block_at z b) memory_is ∙ struct_there b)
 
 pub leaving_is_accepted : LeavingIsAccepted
 leaving_is_accepted = record {
@@ -290,6 +290,7 @@ leaving_is_accepted = record {
     main = leaving_main;
     is_main = refl;
     contract = box_contract;
+    is_own = refl;
     has = has_contract;
     alone = refl;
     begins = no_step (λ x t is. is, (no_names (call_store []), record { by = λ v m. refl }, refl));

@@ -5,6 +5,7 @@ pub mod Reopened
 pub mod Walked
 pub mod TwoLemmas
 pub mod Nested
+pub mod Defined
 pub mod Boxed
 pub mod Counted
 pub mod NewSymbols
@@ -26,3 +27,8 @@ pub mod ClaimingMain
 pub mod ArraySplit
 pub mod ArrayElements
 pub mod Halved
+pub mod TwoUnitsFacts
+pub mod TwoUnitsSeven
+pub mod TwoUnitsLemma
+pub mod TwoUnitsMain
+pub mod TwoUnits

@@ -8,7 +8,7 @@ use Rattle.vf_rules.specs.Take.{takes_all, no_change}
 use Rattle.vf_rules.specs.Laws.{Grows}
 use Rattle.vf_rules.specs.Threads.{run_joinable}
 use Rattle.vf_rules.specs.GhostSteps.{AfterGhostSteps, no_step}
-use Rattle.vf_rules.specs.Claims.{Ends, StandsIn, Refines, before_claim}
+use Rattle.vf_rules.specs.Claims.{Ends, StandsIn, RefinesType, before_claim}
 use Rattle.vf_rules.proofs.Terms.{stored_own, stored_grows}
 use Rattle.vf_rules.specs.Accept.{all_of_it, call_store, pointer_store}
 use Rattle.vf_examples.specs.Sharing.{tick_name, tick, Beside, program_beside, tick_contract, environment_beside}
@@ -108,7 +108,7 @@ module _ (beside : Beside) where
     ),
   )
 
-  pub refines : Refines (environment_beside beside) (program_beside beside) tick tick_contract run_joinable tick_name
+  pub refines : RefinesType (environment_beside beside) (program_beside beside) tick tick_contract run_joinable tick_name
   refines = record {
     parameters = refl;
     outs = record { store = claim_names; state = claimed_at (call_store (symbol 0 ∷ [])) (pre_chunk written_share (symbol 0) (symbol 1) ∷ []) } ∷ [];

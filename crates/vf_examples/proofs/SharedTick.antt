@@ -471,7 +471,7 @@ module _ (beside : Beside) where
   tick_begun = record { locals = unloaded; names = call_store (symbol 0 ∷ []); chunks = pre_chunk written_share (symbol 0) (symbol 1) ∷ []; path = path0 }
 
   pub tick_has : HasContract (environment_beside beside) tick tick_contract
-  tick_has = record { known = refl; parameters = refl; fewer = omega arith; inhabited = inhabited (environment_beside beside) refl tick_contract.sorts (tt, (tt, tt)) }
+  tick_has = record { known = inl refl; parameters = refl; fewer = omega arith; inhabited = inhabited (environment_beside beside) refl tick_contract.sorts (tt, (tt, tt)) }
 
   pub tick_accepted : IsAcceptedFunction (environment_beside beside) (program_beside beside) tick tick_contract
   tick_accepted = record {

@@ -61,15 +61,18 @@ arrays = record {
   predicates = λ q. None;
   bodies = λ b. None;
   functions = λ g. cond (same_identity g get_name) (Some get_contract) (cond (same_identity g put_name) (Some put_contract) None);
+  prototypes = λ g. None;
   types = λ t. None;
   called = λ g n. None;
-  leaks = λ g n. false;
+  leaks = λ text. false;
+  calls = λ text g. false;
 }
 
 -- ---- a lemma
 -- `lemma void split_none(int *p) requires ints(p, ?n, ?vs); ensures ints(p, 0, ints_take(vs, 0)) &*& ints(p + 0, n - 0, ints_drop(vs, 0)); { ints_split(p, 0); }`: that n is not less than 0 is known as soon as the row is produced
 abbrev pub split_none : LemmaTree
 split_none = record {
+  identity = codes "one.c#split_none";
   contract = record {
     sorts = Pointers ∷ Integers ∷ numbers ∷ [];
     parameters = 1;
@@ -77,13 +80,12 @@ split_none = record {
     requires_this = row full (name 0) (Names (Numbered 1)) (Names (Numbered 2));
     ensures_this = Both (row full (name 0) (Is (Number (pos 0))) (Is (apply take_name (name 2) (Number (pos 0))))) (row full (PointerSum (name 0) (Number (pos 0))) (Is (Arithmetic Subtract (name 1) (Number (pos 0)))) (Is (apply drop_name (name 2) (Number (pos 0)))));
   };
-  leaks = false;
   falls = OnArgument 0;
 }
 
 -- `ints_split`
 abbrev pub ints_split : LemmaTree
-ints_split = record { contract = split_contract; leaks = false; falls = OnArgument 0 }
+ints_split = record { identity = codes "<vf_arrays.h>#ints_split"; contract = split_contract; falls = OnArgument 0 }
 
 -- it is accepted, where no lemma stands before it
 abbrev pub SplittingIsAccepted : Type 0

@@ -1,12 +1,12 @@
 -- A program that allocates a struct, writes its field, reads it, frees it and returns what it read, with main's contract.
-use Rattle.std.specs.Prelude.{pos, true, false, cond, List, [], ◌∷◌, Some, None, codes}
+use Rattle.std.specs.Prelude.{ℕ, pos, Bool, true, false, cond, ◌&&◌, nat_eq, List, [], ◌∷◌, Some, None, codes}
 use Rattle.vf_base.specs.declared.place.Place.{Place}
 use Rattle.vf_base.specs.declared.int_type.IntType.TheVariants as types
 use Rattle.vf_tree.specs.Core.{Identity, Field, Integer, PointerToStruct, Read, Number, Null, Equal, StepTree, Load, Store, Allocate, Free, If, Return, FunctionTree, ProgramTree}
 use Rattle.vf_model.specs.Values.{same_identity}
 use Rattle.vf_meaning.specs.Ghost.{Integers, Variable, Result, Truth, Compare}
 use Rattle.vf_meaning.specs.Ghost as ghost
-use Rattle.vf_meaning.specs.Assertions.{Pure, ContractTree, Environment}
+use Rattle.vf_meaning.specs.Assertions.{Pure, ContractTree, GhostText, BeforeStep, BodyOf, Environment}
 use Rattle.vf_safety.specs.Laws.{IsAcceptedProgram}
 
 -- the place of all of its steps
@@ -55,6 +55,11 @@ box_program = record { functions = box_main ∷ []; structs = record { identity 
 abbrev pub box_contract : ContractTree
 box_contract = record { sorts = []; parameters = 0; result = Some Integers; requires_this = Pure (Truth true); ensures_this = Pure (Compare Equal (Variable Result) (ghost.Number (pos 7))) }
 
+-- before a step of a function, and nowhere else
+abbrev pub only_before : Identity → ℕ → GhostText → Bool
+only_before g n (BeforeStep h m) = same_identity h g && nat_eq m n
+only_before g n (BodyOf h) = false
+
 -- main has its contract, and nothing else is declared
 abbrev pub box_environment : Environment
 box_environment = record {
@@ -64,9 +69,11 @@ box_environment = record {
   predicates = λ q. None;
   bodies = λ b. None;
   functions = λ g. cond (same_identity g main_name) (Some box_contract) None;
+  prototypes = λ g. None;
   types = λ t. None;
   called = λ g n. None;
-  leaks = λ g n. false;
+  leaks = λ text. false;
+  calls = λ text g. false;
 }
 
 -- the example is accepted

@@ -161,9 +161,11 @@ claiming_environment = record {
   predicates = λ q. cond (same_identity q account) (Some (record { first = []; others = Pointers ∷ Integers ∷ [] })) None;
   bodies = claiming_bodies;
   functions = λ g. cond (same_identity g count_name) (Some count_contract) (cond (same_identity g audit_name) (Some audit_contract) (cond (same_identity g read_name) (Some read_contract) (Some box_contract)));
+  prototypes = λ g. None;
   types = λ t. cond (same_identity t counter_type) (Some counter_contract) (cond (same_identity t auditor_type) (Some auditor_contract) (cond (same_identity t reader_type) (Some reader_contract) None));
   called = λ g n. None;
-  leaks = λ g n. false;
+  leaks = λ text. false;
+  calls = λ text g. false;
 }
 
 -- the example is accepted: each function keeps the contract of its type, though none is the type's in so many words

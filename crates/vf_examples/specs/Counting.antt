@@ -62,9 +62,11 @@ counting_environment = record {
   predicates = λ q. None;
   bodies = λ b. None;
   functions = λ g. Some seven_contract;
+  prototypes = λ g. None;
   types = λ t. cond (same_identity t constant_name) (Some seven_contract) None;
   called = λ g n. cond (nat_eq n 4) (Some constant_name) None;
-  leaks = λ g n. false;
+  leaks = λ text. false;
+  calls = λ text g. false;
 }
 
 -- the example is accepted

@@ -1,5 +1,5 @@
 -- A program with a loop, a heap, a recursive predicate and a mutex that two threads share, all in one, with its contracts and predicates: main builds a list once the thread is joined.
-use Rattle.std.specs.Prelude.{pos, cond, ◌&&◌, nat_eq, List, [], ◌∷◌, Some, None, codes}
+use Rattle.std.specs.Prelude.{pos, cond, List, [], ◌∷◌, Some, None, codes}
 use Rattle.vf_base.specs.declared.int_type.IntType.TheVariants as types
 use Rattle.vf_tree.specs.Core.{Identity, Field, Integer, PointerToStruct, Read, Add, Less, Equal, StepTree, Set, Store, Allocate, Free, If, Call, Return, FunctionTree, ProgramTree}
 use Rattle.vf_tree.specs.Core as core
@@ -9,7 +9,7 @@ use Rattle.vf_meaning.specs.Ghost.{Pointers, Numbered, Null, Compare}
 use Rattle.vf_meaning.specs.Assertions.{Is, Names, BlockOf, Named, Assertion, Empty, Both, Choose, Cell, Chunk, BodyTree, Environment}
 use Rattle.vf_rules.specs.Mutexes.{full, name}
 use Rattle.vf_safety.specs.Laws.{IsAcceptedProgram}
-use Rattle.vf_examples.specs.BoxProgram.{somewhere, main_name}
+use Rattle.vf_examples.specs.BoxProgram.{somewhere, main_name, only_before}
 use Rattle.vf_examples.specs.Sharing.{counter_name, count_field, mutex_field, tick_name, does, Beside, main_beside, program_beside, environment_beside}
 
 -- the identity of a struct with one field, which points to the next one
@@ -76,7 +76,7 @@ with_list = record {
   structs = record { identity = node_name; fields = PointerToStruct node_name ∷ [] } ∷ [];
   predicates = λ q. cond (same_identity q nodes_name) (Some (record { first = []; others = Pointers ∷ [] })) None;
   bodies = λ q. cond (same_identity q nodes_name) (Some nodes_body) None;
-  leaks = λ g n. same_identity g main_name && nat_eq n 21;
+  leaks = only_before main_name 21;
 }
 
 -- main of the example

@@ -1,5 +1,5 @@
 -- A lemma that is accepted by the depth of its precondition's first part, which it opens in two halves, one later than the other.
-use Rattle.std.specs.Prelude.{pos, false, [], ◌∷◌, None}
+use Rattle.std.specs.Prelude.{pos, [], ◌∷◌, None, codes}
 use Rattle.vf_tree.specs.Core.{LessEqual}
 use Rattle.vf_meaning.specs.Fractions.{whole, half}
 use Rattle.vf_meaning.specs.Ghost.{Integers, Fractions, Numbered, Number, Compare, GhostExpression}
@@ -25,8 +25,8 @@ shared_nested = Chunk (Taken (Numbered 1)) (Named nested) (Is (name 0) ∷ [])
 -- `lemma void twice(int n) requires [?f]nested(n); ensures 0 <= n;`, whose body opens half of `[f]nested(n)`, and `if (n != 0) twice(n - 1);`, and then does both once more
 abbrev pub twice : LemmaTree
 twice = record {
+  identity = codes "one.c#twice";
   contract = record { sorts = Integers ∷ Fractions ∷ []; parameters = 1; result = None; requires_this = shared_nested; ensures_this = Pure (Compare LessEqual (Number (pos 0)) (name 0)) };
-  leaks = false;
   falls = OnDepth;
 }
 

@@ -68,9 +68,11 @@ environment = record {
   predicates = λ q. None;
   bodies = λ b. None;
   functions = λ g. Some (truth [] 0 (Some ghost.Integers));
+  prototypes = λ g. None;
   types = λ t. cond (same_identity t callback) (Some (truth [] 0 None)) (Some (truth (ghost.Pointers ∷ []) 1 None));
   called = λ g n. Some callback;
-  leaks = λ g n. false;
+  leaks = λ text. false;
+  calls = λ text g. false;
 }
 
 -- main calls, the call returns, main starts a thread, the thread ends, and main returns

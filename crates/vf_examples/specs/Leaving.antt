@@ -1,12 +1,11 @@
 -- A program that allocates a struct and leaks it.
-use Rattle.std.specs.Prelude.{pos, ◌&&◌, nat_eq, [], ◌∷◌, Some}
+use Rattle.std.specs.Prelude.{pos, [], ◌∷◌, Some}
 use Rattle.vf_base.specs.declared.int_type.IntType.TheVariants as types
 use Rattle.vf_tree.specs.Core.{Integer, PointerToStruct, Read, Number, Null, Equal, Allocate, If, Return, FunctionTree, ProgramTree}
-use Rattle.vf_model.specs.Values.{same_identity}
 use Rattle.vf_meaning.specs.Assertions.{BlockOf, Is, Wild, Assertion, Both, Cell, Chunk, Environment}
 use Rattle.vf_rules.specs.Mutexes.{full, name}
 use Rattle.vf_safety.specs.Laws.{IsAcceptedProgram}
-use Rattle.vf_examples.specs.BoxProgram.{somewhere, main_name, box_name, content, box_environment}
+use Rattle.vf_examples.specs.BoxProgram.{somewhere, main_name, box_name, content, only_before, box_environment}
 
 -- `struct box *p = malloc(sizeof(struct box)); if (p == 0) return 7; /*@ leak p->content |-> _ &*& malloc_block_box(p); @*/ return 7;`
 abbrev pub leaving_main : FunctionTree
@@ -32,7 +31,7 @@ what_is_left = Both (Cell full (name 0) content Wild) (Chunk full (BlockOf box_n
 
 -- a leak stands before the first of the two returns, and all else is declared as in the program that frees its struct
 abbrev pub leaving_environment : Environment
-leaving_environment = record box_environment { leaks = λ g n. same_identity g main_name && nat_eq n 2 }
+leaving_environment = record box_environment { leaks = only_before main_name 2 }
 
 -- the example is accepted, and where no leak stands it is not
 pub record LeavingIsAccepted : Type 0 where

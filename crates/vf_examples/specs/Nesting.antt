@@ -43,16 +43,18 @@ nesting = record {
   predicates = λ q. None;
   bodies = nesting_bodies;
   functions = λ g. None;
+  prototypes = λ g. None;
   types = λ t. None;
   called = λ g n. None;
-  leaks = λ g n. false;
+  leaks = λ text. false;
+  calls = λ text g. false;
 }
 
 -- `lemma void not_negative(int n) requires nested(n); ensures 0 <= n; { open nested(n); if (n != 0) not_negative(n - 1); }`
 abbrev pub not_negative : LemmaTree
 not_negative = record {
+  identity = codes "one.c#not_negative";
   contract = record { sorts = Integers ∷ []; parameters = 1; result = None; requires_this = is_nested (name 0); ensures_this = Pure (Compare LessEqual (Number (pos 0)) (name 0)) };
-  leaks = false;
   falls = OnDepth;
 }
 

@@ -1,12 +1,12 @@
 -- What a program has in which two threads write a struct's field under one mutex: the second thread, the contracts, the predicates, and what the families are at the function of the second thread.
-use Rattle.std.specs.Prelude.{ℕ, Bool, pos, cond, ◌&&◌, List, [], ◌∷◌, Option, Some, None, codes}
+use Rattle.std.specs.Prelude.{ℕ, Bool, pos, false, cond, ◌&&◌, List, [], ◌∷◌, Option, Some, None, codes}
 use Rattle.vf_base.specs.declared.int_type.IntType.TheVariants as types
 use Rattle.vf_tree.specs.Core.{Identity, Field, TypeTree, StructTree, Integer, PointerToVoid, Read, StepTree, Load, Store, Call, Return, FunctionTree, ProgramTree}
 use Rattle.vf_tree.specs.Core as core
 use Rattle.vf_model.specs.Values.{Odd, same_identity}
 use Rattle.vf_model.specs.PreludeFunctions.{MutexAcquire, MutexRelease, identity_of, pointer_to_mutex, run_signature}
 use Rattle.vf_meaning.specs.Ghost.{Pointers, Anything, Numbered, GhostExpression, Function, PredicateValue, and_expression, no_expressions}
-use Rattle.vf_meaning.specs.Assertions.{ShareTree, Times, Is, Names, Wild, Named, Family, Both, Cell, Chunk, BodyName, Plain, Instance, BodyTree, PredicateTree, ContractTree, Environment}
+use Rattle.vf_meaning.specs.Assertions.{ShareTree, Times, Is, Names, Wild, Named, Family, Both, Cell, Chunk, BodyName, Plain, Instance, BodyTree, PredicateTree, ContractTree, GhostText, Environment}
 use Rattle.vf_rules.specs.Mutexes.{full, name, mutex_name, create_mutex_ghost_arg_name, ghost_arg_body}
 use Rattle.vf_rules.specs.Threads.{thread_run_pre, thread_run_post, thread_run_joinable, run_joinable}
 use Rattle.vf_examples.specs.BoxProgram.{somewhere, main_name, box_contract}
@@ -58,7 +58,7 @@ pub record Beside : Type 0 where
   pub structs : List StructTree
   pub predicates : Identity → Option PredicateTree
   pub bodies : Identity → Option BodyTree
-  pub leaks : Identity → ℕ → Bool
+  pub leaks : GhostText → Bool
 
 -- main of such a program
 abbrev pub main_beside : Beside → FunctionTree
@@ -112,7 +112,9 @@ environment_beside beside = record {
   predicates = λ q. cond (same_identity q guarded_name) (Some (record { first = Pointers ∷ []; others = [] })) (beside.predicates q);
   bodies = bodies_beside beside;
   functions = λ g. cond (same_identity g tick_name) (Some tick_contract) (Some box_contract);
+  prototypes = λ g. None;
   types = λ t. cond (same_identity t thread_run_joinable) (Some run_joinable) None;
   called = λ g n. None;
   leaks = beside.leaks;
+  calls = λ text g. false;
 }

@@ -52,9 +52,11 @@ lemma_environment = record {
   predicates = λ q. None;
   bodies = body_of;
   functions = λ g. None;
+  prototypes = λ g. None;
   types = λ t. None;
   called = λ g n. None;
-  leaks = λ g n. false;
+  leaks = λ text. false;
+  calls = λ text g. false;
 }
 
 -- a program without functions
@@ -68,8 +70,8 @@ is_boxed = Chunk full (Named boxed) (Is (name 0) ∷ [])
 -- `lemma void reopen(struct box *p) requires boxed(p); ensures boxed(p); { open boxed(p); close boxed(p); }`
 abbrev pub reopen : LemmaTree
 reopen = record {
+  identity = codes "one.c#reopen";
   contract = record { sorts = Pointers ∷ []; parameters = 1; result = None; requires_this = is_boxed; ensures_this = is_boxed };
-  leaks = false;
   falls = OnArgument 0;
 }
 
@@ -84,8 +86,8 @@ sorts_of_cases = Datatype list_name ∷ Integers ∷ Datatype list_name ∷ []
 -- `lemma void walk(list xs) requires true; ensures true; { switch (xs) { case nil: case cons(x, rest): walk(rest); } }`
 abbrev pub walk : LemmaTree
 walk = record {
+  identity = codes "one.c#walk";
   contract = record { sorts = Datatype list_name ∷ []; parameters = 1; result = None; requires_this = Pure (Truth true); ensures_this = Pure (Truth true) };
-  leaks = false;
   falls = OnArgument 0;
 }
 

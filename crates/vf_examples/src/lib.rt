@@ -12,12 +12,14 @@
 //! `claiming_is_accepted` (three functions that keep the contracts of types which they claim, by what a chunk shows, a
 //! name for what is left open, and a case split), `unsafe_are_refused` (a program that comes to a fault and one that
 //! comes to a race are accepted in no environment), `examples_leak_nothing`, `leaving_is_accepted` (a program with a
-//! leak).
+//! leak); of several units: `two_units_are_accepted` (a call of a function and one of a lemma by the contracts of their
+//! prototypes in another file).
 #![tactic(auto)]
 
 mod instances;
 mod lemmas;
 mod programs;
+mod units;
 
 pub use instances::{calls_are_kept, held_mutex_is_meant};
 pub use lemmas::{
@@ -27,3 +29,4 @@ pub use programs::{
     box_is_accepted, claiming_is_accepted, counting_is_accepted, elements_are_accepted,
     everything_is_accepted, examples_leak_nothing, leaving_is_accepted, unsafe_are_refused,
 };
+pub use units::two_units_are_accepted;

@@ -18,7 +18,7 @@ use Rattle.vf_rules.proofs.Patterns.{patterns_read}
 use Rattle.vf_rules.proofs.Produces.{produced, typed_right}
 use Rattle.vf_rules.specs.Lemmas.{LemmaTree, Gives, LemmaHolds}
 use Rattle.vf_lemmas.specs.Depths.{rest_of}
-use Rattle.vf_lemmas.specs.Proves.{lemma_beginning, IsAcceptedLemma, with_all, with_first_aside, AreAcceptedLemmas}
+use Rattle.vf_lemmas.specs.Proves.{lemma_beginning, IsAcceptedLemma, with_all, with_first_aside}
 use Rattle.vf_lemmas.specs.Laws.{AcceptedLemmasHold}
 use Rattle.vf_lemmas.proofs.Beginnings.{begins_mean, beginning_stands}
 use Rattle.vf_lemmas.proofs.Masses.{HasMass}
@@ -44,7 +44,7 @@ below_all P step zero m l = absurd (none_below m l)
     none_below m l = omega (arith, l)
 below_all P step (suc n) m l = step m (λ j i. below_all P step n j (omega (arith, l, i)))
 
-by_smaller : (P : ℕ → Type 0) → ((n : ℕ) → ((m : ℕ) → m < n → P m) → P n) → (n : ℕ) → P n
+pub by_smaller : (P : ℕ → Type 0) → ((n : ℕ) → ((m : ℕ) → m < n → P m) → P n) → (n : ℕ) → P n
 by_smaller P step n = below_all P step (suc n) n (omega arith)
 
 module _ (e : Environment) (p : ProgramTree) (lemmas : List LemmaTree) where
@@ -90,7 +90,7 @@ module _ (e : Environment) (p : ProgramTree) (lemmas : List LemmaTree) where
   abbrev HoldsAt : LemmaTree → ℕ → ℕ → Type 0
   HoldsAt lemma m n = (w : Valuation) (q : Part) → HasFall e lemma.contract lemma.falls w q n → HasMass m q → AreOfSorts e w lemma.contract.sorts → IsTypedPart e p q → Satisfies e whole lemma.contract.requires_this w q → Gives e lemma w q
 
-  abbrev HoldsHere : ℕ → Type 0
+  abbrev pub HoldsHere : ℕ → Type 0
   HoldsHere place = (lemma : LemmaTree) → slice_get lemmas place ≡ Some lemma → LemmaHolds e p lemma
 
   by_size : (place : ℕ) (lemma : LemmaTree) → slice_get lemmas place ≡ Some lemma → IsAcceptedLemma e p lemmas place lemma → ((i : ℕ) → i < place → HoldsHere i)
@@ -114,10 +114,11 @@ module _ (e : Environment) (p : ProgramTree) (lemmas : List LemmaTree) where
       let fall = has_fall e lemma.contract lemma.falls w q required in
       by_smaller (HoldsAt lemma m) (by_size place lemma is accepted before m less) fall.0 w q fall.1 mass of_sorts typed required
 
-  by_place : AreAcceptedLemmas e p lemmas → (place : ℕ) → ((i : ℕ) → i < place → HoldsHere i) → HoldsHere place
-  by_place accepted place before lemma is under q of_sorts typed required =
+  -- an accepted lemma holds where those before it do
+  pub accepted_holds : (place : ℕ) (lemma : LemmaTree) → slice_get lemmas place ≡ Some lemma → IsAcceptedLemma e p lemmas place lemma → ((i : ℕ) → i < place → HoldsHere i) → LemmaHolds e p lemma
+  accepted_holds place lemma is accepted before under q of_sorts typed required =
       let bound = satisfying_is_bounded e required.0 whole lemma.contract.requires_this under q required.1 in
-      by_smaller (HoldsWith lemma) (by_mass place lemma is (accepted place lemma is) before) bound.0 under q bound.1 of_sorts typed required
+      by_smaller (HoldsWith lemma) (by_mass place lemma is accepted before) bound.0 under q bound.1 of_sorts typed required
 
 pub accepted_lemmas_hold : AcceptedLemmasHold
-accepted_lemmas_hold e p lemmas accepted = by_smaller (HoldsHere e p lemmas) (by_place e p lemmas accepted)
+accepted_lemmas_hold e p lemmas accepted = by_smaller (HoldsHere e p lemmas) (λ place before lemma is. accepted_holds e p lemmas place lemma is (accepted place lemma is) before)

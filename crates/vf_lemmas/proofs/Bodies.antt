@@ -1,12 +1,12 @@
 -- An accepted body of a lemma gives the postcondition, where the lemmas that it calls hold of the parts that they are called with.
-use Rattle.std.proofs.Common.{◌≡◌, ℕ, ◌<◌, Bool, true, false, not, List, [], slice_get, Some, refl, sym, ap, ap₂, subst, ◌∙◌, ◌⊎◌, inl, inr, arith}
-use Rattle.std.specs.Prelude.{IsTrue, IsFalse}
+use Rattle.std.proofs.Common.{◌≡◌, ℕ, ◌<◌, true, not, List, [], slice_get, Some, refl, sym, ap, ap₂, subst, ◌∙◌, ◌⊎◌, inl, inr, arith}
 use Rattle.std.proofs.lemmas.Bool.{cases_Bool}
 use Rattle.vf_tree.specs.Core.{ProgramTree}
 use Rattle.vf_meaning.specs.Fractions.{whole, IsPositive}
 use Rattle.vf_meaning.specs.Ghost.{Name, Numbered, CurrentThread, Variable, Not}
 use Rattle.vf_meaning.specs.Valuations.{Valuation, size, is_true}
-use Rattle.vf_meaning.specs.Assertions.{Environment}
+use Rattle.vf_meaning.specs.Assertions.{BodyOf, Environment}
+use Rattle.vf_meaning.specs.Environments.{MayLeak}
 use Rattle.vf_meaning.specs.Sorts.{AreOfSorts}
 use Rattle.vf_meaning.specs.Parts.{Part, nothing, ◌⊕◌, IsSum}
 use Rattle.vf_meaning.specs.Satisfaction.{SatisfiesAt, Satisfies}
@@ -44,19 +44,11 @@ nothing_typed : (e : Environment) (p : ProgramTree) → IsTypedPart e p nothing
 unfolding nothing
 nothing_typed e p l c positive = absurd (not_nought (nothing l c) refl positive)
 
-not_both : (b : Bool) → IsTrue b → IsFalse b → ⊥
-not_both true h k = cc
-not_both false h k = cc
-
-false_by : (a b : Bool) → (IsTrue a → IsTrue b) → IsFalse b → IsFalse a
-false_by true b h k = absurd (not_both b (h refl) k)
-false_by false b h k = refl
-
 -- ---- what is given of a part is given of what more there is, the rest being leaked
 sums_nothing : (a b r : Part) → a ≡ nothing → b ≡ nothing → IsSum a b r → r ≡ nothing
 sums_nothing a b r h k s = s.adds ∙ ap₂ (λ x y. x ⊕ y) h k ∙ nothing-⊕ nothing
 
-with_leaked : (e : Environment) (own : LemmaTree) (w : Valuation) (left off q : Part) → IsSum left off q → (IsFalse own.leaks → off ≡ nothing) → Gives e own w left → Gives e own w q
+pub with_leaked : (e : Environment) (own : LemmaTree) (w : Valuation) (left off q : Part) → IsSum left off q → ((MayLeak e (BodyOf own.identity) → ⊥) → off ≡ nothing) → Gives e own w left → Gives e own w q
 with_leaked e own w left off q sums none g =
     let (more, both, all) = sums_regroup g.kept g.leaked left off q g.sums sums in
     record { kept = g.kept; leaked = more; sums = all; ensured = g.ensured; unleaked = λ h. sums_nothing g.leaked off more (g.unleaked h) (none h) both }
@@ -115,7 +107,7 @@ module _ (e : Environment) (p : ProgramTree) (lemmas : List LemmaTree) (own : Le
       )
 
   -- after a call
-  after_call : (callee : LemmaTree) (outs : List Outcome) → (IsTrue callee.leaks → IsTrue own.leaks) → (asides : List Aside) (w names : Valuation) (n m : ℕ)
+  after_call : (callee : LemmaTree) (outs : List Outcome) → (MayLeak e (BodyOf callee.identity) → MayLeak e (BodyOf own.identity)) → (asides : List Aside) (w names : Valuation) (n m : ℕ)
       → ((s : terms.Store) (su : SymbolicState) → IsAmong outs s su → (v : Valuation) (part q : Part) → Around e p own names asides w n m part q → StandsFor e v su [] names part → Gives e own w q)
       → (u under : Valuation) (s1 : terms.Store) (st1 : SymbolicState) (off left part q : Part) → IsSum off left part → Around e p own names asides w n m part q → AreFixed callee.contract s1 → StoreMeans e u s1 under
       → Produce e p callee.contract.sorts all_of_it callee.contract.ensures_this s1 st1 (IsAmong outs) → StandsFor e u st1 [] names left → Gives e callee under off → Gives e own w q
@@ -127,7 +119,7 @@ module _ (e : Environment) (p : ProgramTree) (lemmas : List LemmaTree) (own : Le
       let o = produced e p callee.contract.sorts all_of_it whole (ensured.satisfies).0 [] names callee.contract.ensures_this s1 st1 (IsAmong outs) produce u ensured.later g.kept left now stands later_means ensured.sorts refl positive_whole
       (ensured.satisfies).1 (typed_left e p g.kept left now both typed_now) both in
       let (less, gone, rest) = with_less e p own names asides w n m g.leaked now part q all around in
-      with_leaked e own w less g.leaked q (sums_turn g.leaked less q gone) (λ h. g.unleaked (false_by callee.leaks own.leaks leaks h)) (go o.store o.state o.holds o.under now less rest o.stands)
+      with_leaked e own w less g.leaked q (sums_turn g.leaked less q gone) (λ h. g.unleaked (λ l. h (leaks l))) (go o.store o.state o.holds o.under now less rest o.stands)
 
   -- a state after an assertion over names was produced has the store's names
   renamed : (v names : Valuation) (s : terms.Store) (su : SymbolicState) (part : Part) → StoreMeans e v s names → StandsFor e v su [] names part → StandsFor e v (record su { names = s }) [] names part
@@ -167,7 +159,7 @@ module _ (e : Environment) (p : ProgramTree) (lemmas : List LemmaTree) (own : Le
   body_gives {asides} {st} (may_leak a sorts store outs leaks sorted consume go) here w n m sized usable v names part q around stands =
       let c = consumed e p sorts all_of_it whole [] names a store st (IsAmong outs) consume v part stands (store_sorted e v st.path sorts store sorted stands.path) refl in
       let (less, gone, rest) = with_less e p own names asides w n m c.off c.left part q c.sums around in
-      with_leaked e own w less c.off q (sums_turn c.off less q gone) (λ h. absurd (not_both own.leaks leaks h)) (body_gives (go c.store c.state c.holds) here w n m sized usable c.under names c.left less rest c.stands)
+      with_leaked e own w less c.off q (sums_turn c.off less q gone) (λ h. absurd (h leaks)) (body_gives (go c.store c.state c.holds) here w n m sized usable c.under names c.left less rest c.stands)
   body_gives {asides} {st} (may_call number callee ts outs is leaks inhabited long sorted consume go) here w n m sized usable v names part q around stands =
       let c = consumed e p callee.contract.sorts all_of_it whole [] names callee.contract.requires_this (call_store ts) st _ consume v part stands (sorted_arguments e v st.path callee.contract.sorts ts sorted stands.path) refl in
       let under = completed e c.under callee.contract.sorts inhabited c.store in
@@ -182,7 +174,7 @@ module _ (e : Environment) (p : ProgramTree) (lemmas : List LemmaTree) (own : Le
   body_gives {asides} {st} (may_call_held lemma ts outs holds leaks inhabited long sorted consume go) here w n m sized usable v names part q around stands =
       let o = lemma_called e p lemma ts outs st holds inhabited sorted consume [] names v part stands (part_typed e p own names asides w n m part q around) in
       let (less, gone, rest) = with_less e p own names asides w n m o.leaked o.left part q o.sums around in
-      with_leaked e own w less o.leaked q (sums_turn o.leaked less q gone) (λ h. o.unleaked (false_by lemma.leaks own.leaks leaks h)) (body_gives (go o.store o.state o.holds) here w n m sized usable o.under names o.left less rest o.stands)
+      with_leaked e own w less o.leaked q (sums_turn o.leaked less q gone) (λ h. o.unleaked (λ l. h (leaks l))) (body_gives (go o.store o.state o.holds) here w n m sized usable o.under names o.left less rest o.stands)
   body_gives {asides} {st} (may_put_back {others = others} b outs taken produce go) here w n m sized usable v names part q around stands =
       let k = back e p own names b taken w n m part q around in
       let typed_now = part_typed e p own names others w n m k.now q k.around in

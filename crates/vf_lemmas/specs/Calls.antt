@@ -1,11 +1,12 @@
 -- Calls of lemmas that hold, from any state: what a function's body does with them; and `assert` in a lemma's body.
-use Rattle.std.specs.Prelude.{◌≡◌, ℕ, ◌<◌, IsFalse, List, length, Option}
+use Rattle.std.specs.Prelude.{◌≡◌, ℕ, ◌<◌, List, length, Option}
 use Rattle.vf_tree.specs.Core.{Identity, ProgramTree}
 use Rattle.vf_model.specs.Values.{Value, Values}
 use Rattle.vf_model.specs.Values as values
 use Rattle.vf_meaning.specs.Valuations.{Valuation, count, size, value_at}
 use Rattle.vf_meaning.specs.Ghost.{Sort}
-use Rattle.vf_meaning.specs.Assertions.{Assertion, Environment}
+use Rattle.vf_meaning.specs.Assertions.{Assertion, BodyOf, Environment}
+use Rattle.vf_meaning.specs.Environments.{MayLeak}
 use Rattle.vf_meaning.specs.Parts.{Part, nothing, IsSum}
 use Rattle.vf_rules.specs.Terms.{Term, Store}
 use Rattle.vf_rules.specs.States.{SymbolicState, StandsFor, with_chunks}
@@ -30,12 +31,12 @@ pub record Calls (e : Environment) (p : ProgramTree) (lemma : LemmaTree) (st : S
   pub consumed : Consume e p lemma.contract.sorts all_of_it lemma.contract.requires_this (call_store arguments) st (λ s1 st1.
       AreFixed lemma.contract s1 × Produce e p lemma.contract.sorts all_of_it lemma.contract.ensures_this s1 st1 (IsAmong outs))
 
--- after a call one of the outcomes stands for the same locals and names, and for what is left of the part where something was leaked, which is nothing where the lemma does not leak
+-- after a call one of the outcomes stands for the same locals and names, and for what is left of the part where something was leaked, which is nothing where nothing may be leaked in the lemma's body
 pub record Called (e : Environment) (lemma : LemmaTree) (outs : List Outcome) (locals : List (Option Value)) (names : Valuation) (p : Part) : Type 0 where
   pub leaked : Part
   pub left : Part
   pub sums : IsSum leaked left p
-  pub unleaked : IsFalse lemma.leaks → leaked ≡ nothing
+  pub unleaked : (MayLeak e (BodyOf lemma.identity) → ⊥) → leaked ≡ nothing
   pub stands : SomeStands e outs locals names left
 
 -- a call of a lemma that holds changes nothing of what a state stands for, but for what is leaked

@@ -1,9 +1,10 @@
 -- When the body of a lemma is accepted: rules for what annotations do, and for calls of lemmas.
-use Rattle.std.specs.Prelude.{◌≡◌, ℕ, ◌<◌, IsTrue, true, false, List, [], ◌∷◌, ◌++◌, map, length, slice_get, Some}
+use Rattle.std.specs.Prelude.{◌≡◌, ℕ, ◌<◌, true, false, List, [], ◌∷◌, ◌++◌, map, length, slice_get, Some}
 use Rattle.vf_tree.specs.Core.{Field, ProgramTree}
 use Rattle.vf_meaning.specs.Ghost.{Sort, Name, Numbered, Not}
 use Rattle.vf_meaning.specs.Valuations.{Valuation, size}
-use Rattle.vf_meaning.specs.Assertions.{Names, Assertion, ContractTree, Environment}
+use Rattle.vf_meaning.specs.Assertions.{Names, Assertion, ContractTree, BodyOf, Environment}
+use Rattle.vf_meaning.specs.Environments.{MayLeak}
 use Rattle.vf_rules.specs.Terms.{Term}
 use Rattle.vf_rules.specs.Terms as terms
 use Rattle.vf_rules.specs.States.{Fact, Holds, CellOf, SymbolicChunk, SymbolicState, value_in, Meets, Entails, Shows, Infeasible, assuming}
@@ -49,14 +50,14 @@ pub data Proves (e : Environment) (p : ProgramTree) (lemmas : List LemmaTree) (o
   may_split : {asides : List Aside} {st : SymbolicState} (t : Term) → Proves e p lemmas own place asides (assuming st (Holds t)) → Proves e p lemmas own place asides (assuming st (Holds (Not t))) → Proves e p lemmas own place asides st
   may_know : {asides : List Aside} {st : SymbolicState} (a : Assertion) (sorts : List Sort) (store : terms.Store) (outs : List Outcome) → HoldsOfNothing e st.path sorts a store → Produce e p sorts all_of_it a store st (IsAmong outs)
       → ((s : terms.Store) (su : SymbolicState) → IsAmong outs s su → Proves e p lemmas own place asides su) → Proves e p lemmas own place asides st
-  may_leak : {asides : List Aside} {st : SymbolicState} (a : Assertion) (sorts : List Sort) (store : terms.Store) (outs : List Outcome) → IsTrue own.leaks → AreNamesSorted e st.path sorts store → Consume e p sorts all_of_it a store st (IsAmong outs)
+  may_leak : {asides : List Aside} {st : SymbolicState} (a : Assertion) (sorts : List Sort) (store : terms.Store) (outs : List Outcome) → MayLeak e (BodyOf own.identity) → AreNamesSorted e st.path sorts store → Consume e p sorts all_of_it a store st (IsAmong outs)
       → ((s : terms.Store) (su : SymbolicState) → IsAmong outs s su → Proves e p lemmas own place asides su) → Proves e p lemmas own place asides st
-  may_call : {asides : List Aside} {st : SymbolicState} (number : ℕ) (callee : LemmaTree) (ts : List Term) (outs : List Outcome) → slice_get lemmas number ≡ Some callee → (IsTrue callee.leaks → IsTrue own.leaks)
+  may_call : {asides : List Aside} {st : SymbolicState} (number : ℕ) (callee : LemmaTree) (ts : List Term) (outs : List Outcome) → slice_get lemmas number ≡ Some callee → (MayLeak e (BodyOf callee.identity) → MayLeak e (BodyOf own.identity))
       → AreInhabited e callee.contract.sorts → length ts ≡ callee.contract.parameters → AreSorted e st.path callee.contract.sorts ts
       → Consume e p callee.contract.sorts all_of_it callee.contract.requires_this (call_store ts) st (λ s1 st1.
       MayCall e own place st ts st1 number × AreFixed callee.contract s1 × Produce e p callee.contract.sorts all_of_it callee.contract.ensures_this s1 st1 (IsAmong outs))
       → ((s : terms.Store) (su : SymbolicState) → IsAmong outs s su → Proves e p lemmas own place asides su) → Proves e p lemmas own place asides st
-  may_call_held : {asides : List Aside} {st : SymbolicState} (lemma : LemmaTree) (ts : List Term) (outs : List Outcome) → LemmaHolds e p lemma → (IsTrue lemma.leaks → IsTrue own.leaks)
+  may_call_held : {asides : List Aside} {st : SymbolicState} (lemma : LemmaTree) (ts : List Term) (outs : List Outcome) → LemmaHolds e p lemma → (MayLeak e (BodyOf lemma.identity) → MayLeak e (BodyOf own.identity))
       → AreInhabited e lemma.contract.sorts → length ts ≡ lemma.contract.parameters → AreSorted e st.path lemma.contract.sorts ts
       → Consume e p lemma.contract.sorts all_of_it lemma.contract.requires_this (call_store ts) st (λ s1 st1. AreFixed lemma.contract s1 × Produce e p lemma.contract.sorts all_of_it lemma.contract.ensures_this s1 st1 (IsAmong outs))
       → ((s : terms.Store) (su : SymbolicState) → IsAmong outs s su → Proves e p lemmas own place asides su) → Proves e p lemmas own place asides st

@@ -7,4 +7,5 @@ pub mod FitSteps
 pub mod Satisfaction
 pub mod Growth
 pub mod Joins
+pub mod Linking
 pub mod ShareOuts

@@ -62,7 +62,12 @@ pub record ContractTree : Type 0 where
   pub requires_this : Assertion
   pub ensures_this : Assertion
 
--- All declarations by identity: constructors of datatypes, fixpoints (each before those that it names), which function's declaration claims which function type, predicates, bodies, the contracts of functions and of function types, the function type of each call through a pointer, by the calling function and the number of its step, and whether a `leak` is run before a step of a function, in the function's annotations or in a lemma that they call
+-- Ghost text that is run: the annotations before a step of a function, by the number of the step, or the body of a lemma
+pub data GhostText : Type 0 where
+  BeforeStep : Identity → ℕ → GhostText
+  BodyOf : Identity → GhostText
+
+-- All declarations by identity: constructors of datatypes, fixpoints (each before those that it names), which function's declaration claims which function type, predicates, bodies, the contracts that stand at the definitions of functions and lemmas, those that stand at their prototypes, the contracts of function types, the function type of each call through a pointer, by the calling function and the number of its step, in which ghost text a `leak` stands, and which lemmas are called in it
 pub record Environment : Type 0 where
   pub constructors : Identity → Option ConstructorTree
   pub fixpoints : List FixpointTree
@@ -70,6 +75,8 @@ pub record Environment : Type 0 where
   pub predicates : Identity → Option PredicateTree
   pub bodies : BodyName → Option BodyTree
   pub functions : Identity → Option ContractTree
+  pub prototypes : Identity → Option ContractTree
   pub types : Identity → Option ContractTree
   pub called : Identity → ℕ → Option Identity
-  pub leaks : Identity → ℕ → Bool
+  pub leaks : GhostText → Bool
+  pub calls : GhostText → Identity → Bool

@@ -15,7 +15,8 @@ use Rattle.vf_model.specs.Runs.{after, can_step, reach, Fault}
 use Rattle.vf_meaning.specs.Fractions.{whole}
 use Rattle.vf_meaning.specs.Ghost.{Name, Numbered, Result, This, CurrentThread}
 use Rattle.vf_meaning.specs.Valuations.{Valuation, in_row, count, bound}
-use Rattle.vf_meaning.specs.Assertions.{ContractTree, Environment}
+use Rattle.vf_meaning.specs.Assertions.{ContractTree, BeforeStep, Environment}
+use Rattle.vf_meaning.specs.Environments.{own_contract, MayLeak}
 use Rattle.vf_meaning.specs.Names.{UsesIn}
 use Rattle.vf_meaning.specs.Sorts.{AreOfSorts}
 use Rattle.vf_meaning.specs.Parts.{Part, nothing, IsSum}
@@ -165,29 +166,29 @@ pub record ChangesOnly (s new : State) (t : ℕ) (o next : ShareOut) : Type 0 wh
   pub threads : (u : ℕ) → u ≢ t → u < length s.threads → ((b : ℕ) → IsHandleOf s b u → block_at new.memory b ≡ block_at s.memory b) → next.threads u ≡ o.threads u
   pub mutexes : (b : ℕ) → block_at new.memory b ≡ block_at s.memory b → next.mutexes b ≡ o.mutexes b
 
--- a leak stands before a thread's next step, in the function that the thread is in
+-- something may be leaked before a thread's next step, in the function that the thread is in
 pub record LeaksNext (e : Environment) (p : ProgramTree) (s : State) (t : ℕ) : Type 0 where
   pub f : FunctionTree
   pub frame : Frame
   pub callers : List Frame
   pub frames : slice_get s.threads t ≡ Some (frame ∷ callers)
   pub function : slice_get p.functions frame.function ≡ Some f
-  pub leaks : IsTrue (e.leaks f.identity frame.step)
+  pub leaks : MayLeak e (BeforeStep f.identity frame.step)
 
--- what was leaked grows by a part in an event of a thread, which is nothing where no leak stands before the thread's step
+-- what was leaked grows by a part in an event of a thread, which is nothing where nothing may be leaked before the thread's step
 pub record Leaks (e : Environment) (p : ProgramTree) (s : State) (t : ℕ) (o next : ShareOut) : Type 0 where
   pub more : Part
   pub sums : IsSum more o.leaked next.leaked
   pub unleaked : (LeaksNext e p s t → ⊥) → more ≡ nothing
 
--- What a list of events keeps in a program with an environment: share-outs of all states that it comes to, such that main begins with nothing and its precondition, each event changes only what is its own or handed over, what was leaked grows only where a leak stands, each call through a pointer and each thread keeps the contract of its function type, and main's return leaves its postcondition
+-- What a list of events keeps in a program with an environment: share-outs of all states that it comes to, such that main begins with nothing and its precondition, each event changes only what is its own or handed over, what was leaked grows only where something may be leaked, each call through a pointer and each thread keeps the contract of its function type, and main's return leaves its postcondition
 pub record Kept (e : Environment) (p : ProgramTree) (events : List Event) : Type 0 where
   pub outs : ℕ → ShareOut
   pub share_outs : (k : ℕ) → k ≤ length events → IsShareOut e p (before p events k) (outs k)
   pub main : FunctionTree
   pub is_main : slice_get p.functions p.main ≡ Some main
   pub contract : ContractTree
-  pub of_main : e.functions main.identity ≡ Some contract
+  pub of_main : own_contract e main.identity ≡ Some contract
   pub under : Valuation
   pub current : under CurrentThread ≡ values.Number (pos 0)
   pub sorts : AreOfSorts e under contract.sorts

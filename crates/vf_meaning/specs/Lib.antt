@@ -15,6 +15,7 @@ pub mod Sorts
 pub mod Chunks
 pub mod Satisfaction
 pub mod Environments
+pub mod LinkingLaws
 pub mod SatisfactionLaws
 pub mod ShareOuts
 pub mod ShareOutLaws

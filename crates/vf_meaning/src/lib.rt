@@ -11,13 +11,15 @@
 //! `listed_fixpoints_meet_equations`), of parts (`sums_regroup`, `fitting_is_consistent`, `whole_is_alone` and more),
 //! of what fits before and after each change of memory (`fields_are_there`, `fields_are_written`, `blocks_are_added`,
 //! `blocks_are_freed`, `mutexes_are_acquired`, `mutexes_are_released` and more), of satisfaction (`depth_grows`,
-//! `scales_split`, `chunks_join`, `rows_join`, `names_agree`, `declarations_grow` and more), of share-outs
-//! (`sums_open`, `sums_close`, `members_are_apart`, `share_outs_exclude_races`).
+//! `scales_split`, `chunks_join`, `rows_join`, `names_agree`, `declarations_grow` and more), of linked environments
+//! (`units_link`, `linked_units_agree`, `no_leaks_are_linked`), of share-outs (`sums_open`, `sums_close`,
+//! `members_are_apart`, `share_outs_exclude_races`).
 #![tactic(auto)]
 
 mod fit_laws;
 mod fixpoint_laws;
 mod fraction_laws;
+mod linking_laws;
 mod part_laws;
 mod satisfaction_laws;
 mod share_out_laws;
@@ -35,6 +37,7 @@ pub use fraction_laws::{
     reduces_to_its_value, stays_positive, sum_associates, sum_commutes, tells_order,
     whole_scales_nothing,
 };
+pub use linking_laws::{linked_units_agree, no_leaks_are_linked, units_link};
 pub use part_laws::{
     fitting_is_at_most_whole, fitting_is_consistent, nothing_fits_empty, nothing_is_neutral,
     parts_add, singles_add, singles_have_just_that, sums_are_consistent, sums_regroup, sums_turn,

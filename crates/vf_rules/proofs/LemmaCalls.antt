@@ -1,12 +1,12 @@
 -- What a call of a lemma that holds makes of what a state stands for.
 use Rattle.std.proofs.Common.{◌≡◌, List, Option, refl, sym, ◌∙◌, arith}
-use Rattle.std.specs.Prelude.{IsFalse}
 use Rattle.vf_tree.specs.Core.{ProgramTree}
 use Rattle.vf_model.specs.Values.{Value}
 use Rattle.vf_meaning.specs.Fractions.{whole, IsPositive}
 use Rattle.vf_meaning.specs.Ghost.{Sort, Numbered, CurrentThread, Variable}
 use Rattle.vf_meaning.specs.Valuations.{Valuation}
-use Rattle.vf_meaning.specs.Assertions.{Environment}
+use Rattle.vf_meaning.specs.Assertions.{BodyOf, Environment}
+use Rattle.vf_meaning.specs.Environments.{MayLeak}
 use Rattle.vf_meaning.specs.Parts.{Part, nothing, IsSum}
 use Rattle.vf_meaning.proofs.Parts.{sums_turn, sums_regroup}
 use Rattle.vf_rules.specs.Terms.{Term}
@@ -27,7 +27,7 @@ use Rattle.vf_rules.proofs.Opening.{completed, completed_means, completed_sorted
 positive_whole : IsPositive whole
 positive_whole = omega arith
 
--- What is there behind a call: an outcome that stands for what is left of a part, and what was leaked of it, which is nothing where the lemma does not leak
+-- What is there behind a call: an outcome that stands for what is left of a part, and what was leaked of it, which is nothing where nothing may be leaked in the lemma's body
 pub record AfterLemma (e : Environment) (lemma : LemmaTree) (outs : List Outcome) (locals : List (Option Value)) (names : Valuation) (p : Part) : Type 0 where
   pub under : Valuation
   pub store : terms.Store
@@ -36,7 +36,7 @@ pub record AfterLemma (e : Environment) (lemma : LemmaTree) (outs : List Outcome
   pub left : Part
   pub leaked : Part
   pub sums : IsSum leaked left p
-  pub unleaked : IsFalse lemma.leaks → leaked ≡ nothing
+  pub unleaked : (MayLeak e (BodyOf lemma.identity) → ⊥) → leaked ≡ nothing
   pub stands : StandsFor e under state locals names left
 
 -- the arguments have the sorts of the parameters

@@ -10,7 +10,8 @@ use Rattle.vf_meaning.specs.Fractions.{whole}
 use Rattle.vf_meaning.specs.Ghost.{Sort, Name, Pointers, Result, This, CurrentThread, Variable, Claims, Null, Not, Compare, PointerSum, Fraction}
 use Rattle.vf_meaning.specs.Ghost as ghost
 use Rattle.vf_meaning.specs.Kept.{IsFixed}
-use Rattle.vf_meaning.specs.Assertions.{BlockOf, Assertion, ContractTree, Environment}
+use Rattle.vf_meaning.specs.Assertions.{BlockOf, Assertion, ContractTree, BeforeStep, BodyOf, Environment}
+use Rattle.vf_meaning.specs.Environments.{IsContractOf, MayLeak}
 use Rattle.vf_rules.specs.Terms.{Term, stored}
 use Rattle.vf_rules.specs.Terms as terms
 use Rattle.vf_rules.specs.States.{Fact, Holds, OfSort, CellOf, Of, SymbolicChunk, SymbolicState, Entails, Shows, Infeasible, assuming, assuming_all, with_chunks}
@@ -88,9 +89,9 @@ call_store ts = stored (store_of ts) CurrentThread (Variable CurrentThread)
 abbrev pub pointer_store : List Term → Term → terms.Store
 pointer_store ts t = stored (call_store ts) This t
 
--- the contract of a function, with what a call of it needs: as many parameters, and sorts that have values
+-- a contract of a function, at its definition or at its prototype, with what a call by it needs: as many parameters, and sorts that have values
 pub record HasContract (e : Environment) (f : FunctionTree) (k : ContractTree) : Type 0 where
-  pub known : e.functions f.identity ≡ Some k
+  pub known : IsContractOf e f.identity k
   pub parameters : k.parameters ≡ length f.signature.parameters
   pub fewer : length f.signature.parameters ≤ length f.locals
   pub inhabited : AreInhabited e k.sorts
@@ -206,11 +207,11 @@ pub data Accepts (e : Environment) (p : ProgramTree) (f : FunctionTree) (k : Con
   may_close : {now soon : List Loop} {n : ℕ} {st : SymbolicState} (outs : List Outcome) → Closes e p st outs → ((s : terms.Store) (su : SymbolicState) → IsAmong outs s su → Accepts e p f k now soon n su) → Accepts e p f k now soon n st
   may_see : {now soon : List Loop} {n : ℕ} {st : SymbolicState} (fact : Fact) → Shows e st fact → Accepts e p f k now soon n (assuming st fact) → Accepts e p f k now soon n st
   may_split : {now soon : List Loop} {n : ℕ} {st : SymbolicState} (t : Term) → Accepts e p f k now soon n (assuming st (Holds t)) → Accepts e p f k now soon n (assuming st (Holds (Not t))) → Accepts e p f k now soon n st
-  may_leak : {now soon : List Loop} {n : ℕ} {st : SymbolicState} (a : Assertion) (sorts : List Sort) (store : terms.Store) (outs : List Outcome) → IsTrue (e.leaks f.identity n) → AreNamesSorted e st.path sorts store → Consume e p sorts all_of_it a store st (IsAmong outs)
+  may_leak : {now soon : List Loop} {n : ℕ} {st : SymbolicState} (a : Assertion) (sorts : List Sort) (store : terms.Store) (outs : List Outcome) → MayLeak e (BeforeStep f.identity n) → AreNamesSorted e st.path sorts store → Consume e p sorts all_of_it a store st (IsAmong outs)
       → ((s : terms.Store) (su : SymbolicState) → IsAmong outs s su → Accepts e p f k now soon n su) → Accepts e p f k now soon n st
   may_know : {now soon : List Loop} {n : ℕ} {st : SymbolicState} (a : Assertion) (sorts : List Sort) (store : terms.Store) (outs : List Outcome) → HoldsOfNothing e st.path sorts a store → Produce e p sorts all_of_it a store st (IsAmong outs)
       → ((s : terms.Store) (su : SymbolicState) → IsAmong outs s su → Accepts e p f k now soon n su) → Accepts e p f k now soon n st
-  may_call_lemma : {now soon : List Loop} {n : ℕ} {st : SymbolicState} (lemma : LemmaTree) (ts : List Term) (outs : List Outcome) → LemmaHolds e p lemma → (IsTrue lemma.leaks → IsTrue (e.leaks f.identity n)) → AreInhabited e lemma.contract.sorts → length ts ≡ lemma.contract.parameters → AreSorted e st.path lemma.contract.sorts ts
+  may_call_lemma : {now soon : List Loop} {n : ℕ} {st : SymbolicState} (lemma : LemmaTree) (ts : List Term) (outs : List Outcome) → LemmaHolds e p lemma → (MayLeak e (BodyOf lemma.identity) → MayLeak e (BeforeStep f.identity n)) → AreInhabited e lemma.contract.sorts → length ts ≡ lemma.contract.parameters → AreSorted e st.path lemma.contract.sorts ts
       → Consume e p lemma.contract.sorts all_of_it lemma.contract.requires_this (call_store ts) st (λ s1 st1. AreFixed lemma.contract s1 × Produce e p lemma.contract.sorts all_of_it lemma.contract.ensures_this s1 st1 (IsAmong outs))
       → ((s : terms.Store) (su : SymbolicState) → IsAmong outs s su → Accepts e p f k now soon n su) → Accepts e p f k now soon n st
   may_enter : {now soon : List Loop} {n : ℕ} {st : SymbolicState} (loop : Loop) → loop.node ≡ n → IsLoop e p loop → Enters e p loop st

@@ -1,9 +1,10 @@
--- Claims: a function that claims a function type keeps the contract of the type.
+-- Refinements: a function's own contract stands in for that of its prototype, and for that of each function type that it claims.
 use Rattle.std.specs.Prelude.{◌≡◌, ℕ, IsTrue, List, [], ◌++◌, length, slice_get, Some}
 use Rattle.vf_tree.specs.Core.{Identity, FunctionTree, ProgramTree}
 use Rattle.vf_model.specs.State.{function_named}
 use Rattle.vf_meaning.specs.Ghost.{Result, Function}
 use Rattle.vf_meaning.specs.Assertions.{ContractTree, Environment}
+use Rattle.vf_meaning.specs.Environments.{own_contract}
 use Rattle.vf_rules.specs.Terms.{Term, stored}
 use Rattle.vf_rules.specs.Terms as terms
 use Rattle.vf_rules.specs.States.{SymbolicState, assuming_all}
@@ -15,7 +16,7 @@ use Rattle.vf_rules.specs.Predicates.{AreSorted}
 use Rattle.vf_rules.specs.Accept.{all_of_it, call_store, pointer_store, parameter_symbols, facts_of_types, facts_of_sorts, facts_of_result, HasContract, AreFixed, KeepsFixed}
 use Rattle.vf_rules.specs.GhostSteps.{AfterGhostSteps, NamesHave}
 
--- the state in which a claim is checked: the parameters have new symbols of their types and sorts, and nothing else is there
+-- the state in which a refinement is checked: the parameters have new symbols of their types and sorts, and nothing else is there
 abbrev pub before_claim : FunctionTree → ContractTree → SymbolicState
 before_claim f contract = record {
   locals = [];
@@ -43,22 +44,31 @@ StandsIn e p f own contract st =
     × Produce e p own.sorts all_of_it own.ensures_this (stored s1 Result (symbol y)) (assuming_all st1 (facts_of_result f.signature.result (symbol y))) (λ s2 st2.
     AfterGhostSteps e p (Ends e p contract) (with_result st2 (symbol y))))
 
--- A function's own contract refines that of a type: the type's precondition is produced, and after ghost steps from each outcome the own contract stands in for the type's
-pub record Refines (e : Environment) (p : ProgramTree) (f : FunctionTree) (own contract : ContractTree) (g : Identity) : Type 0 where
+-- A function's own contract refines another one, whose names have the terms of a store: the other's precondition is produced, and after ghost steps from each outcome the own contract stands in for the other
+pub record Refines (e : Environment) (p : ProgramTree) (f : FunctionTree) (own contract : ContractTree) (names : terms.Store) : Type 0 where
   pub parameters : contract.parameters ≡ length f.signature.parameters
   pub outs : List Outcome
-  pub required : Produce e p contract.sorts all_of_it contract.requires_this (pointer_store (parameter_symbols (length f.signature.parameters)) (Function g)) (before_claim f contract) (IsAmong outs)
+  pub required : Produce e p contract.sorts all_of_it contract.requires_this names (before_claim f contract) (IsAmong outs)
   pub kept : (s : terms.Store) (st : SymbolicState) → IsAmong outs s st → AfterGhostSteps e p (StandsIn e p f own contract) (record st { names = s })
 
--- a function of the program keeps the contract of a type that it claims
+-- it refines the contract of a function type, in which `this` is the function of an identity
+abbrev pub RefinesType : Environment → ProgramTree → FunctionTree → ContractTree → ContractTree → Identity → Type 0
+RefinesType e p f own contract g = Refines e p f own contract (pointer_store (parameter_symbols (length f.signature.parameters)) (Function g))
+
+-- it refines the contract of the function's prototype
+abbrev pub RefinesPrototype : Environment → ProgramTree → FunctionTree → ContractTree → ContractTree → Type 0
+RefinesPrototype e p f own contract = Refines e p f own contract (call_store (parameter_symbols (length f.signature.parameters)))
+
+-- a function of the program keeps the contract of a type that it claims, which the contract of its body refines
 pub record KeepsClaim (e : Environment) (p : ProgramTree) (g : Identity) (contract : ContractTree) : Type 0 where
   pub number : ℕ
   pub function : FunctionTree
   pub named : function_named p g ≡ Some number
   pub is : slice_get p.functions number ≡ Some function
   pub own : ContractTree
+  pub is_own : own_contract e g ≡ Some own
   pub has : HasContract e function own
-  pub refines : Refines e p function own contract g
+  pub refines : RefinesType e p function own contract g
 
 -- each function keeps the contract of each type that it claims
 abbrev pub AreClaimsKept : Environment → ProgramTree → Type 0

@@ -1,9 +1,10 @@
 -- Lemmas: contracts that are kept without a step of the machine, and what they give.
-use Rattle.std.specs.Prelude.{◌≡◌, ℕ, Bool, IsFalse, None}
-use Rattle.vf_tree.specs.Core.{ProgramTree}
+use Rattle.std.specs.Prelude.{◌≡◌, ℕ, None}
+use Rattle.vf_tree.specs.Core.{Identity, ProgramTree}
 use Rattle.vf_meaning.specs.Fractions.{whole}
 use Rattle.vf_meaning.specs.Valuations.{Valuation}
-use Rattle.vf_meaning.specs.Assertions.{ContractTree, Environment}
+use Rattle.vf_meaning.specs.Assertions.{ContractTree, BodyOf, Environment}
+use Rattle.vf_meaning.specs.Environments.{MayLeak}
 use Rattle.vf_meaning.specs.Sorts.{AreOfSorts}
 use Rattle.vf_meaning.specs.Parts.{Part, nothing, IsSum}
 use Rattle.vf_meaning.specs.Satisfaction.{Satisfies}
@@ -15,19 +16,19 @@ pub data Fall : Type 0 where
   OnArgument : ℕ → Fall
   OnDepth : Fall
 
--- A lemma: its contract; whether its body, or that of a lemma which it calls, leaks; and what falls where it calls itself
+-- A lemma under a contract, its own or its prototype's, by its identity, and what falls where it calls itself
 pub record LemmaTree : Type 0 where
+  pub identity : Identity
   pub contract : ContractTree
-  pub leaks : Bool
   pub falls : Fall
 
--- What a lemma gives from a part: one not greater that satisfies the postcondition, the names of the precondition having their values, and the rest, which is leaked; it is nothing where the lemma does not leak
+-- What a lemma gives from a part: one not greater that satisfies the postcondition, the names of the precondition having their values, and the rest, which is leaked; it is nothing where nothing may be leaked in the lemma's body
 pub record Gives (e : Environment) (lemma : LemmaTree) (under : Valuation) (p : Part) : Type 0 where
   pub kept : Part
   pub leaked : Part
   pub sums : IsSum kept leaked p
   pub ensured : Ensures e lemma.contract under None kept
-  pub unleaked : IsFalse lemma.leaks → leaked ≡ nothing
+  pub unleaked : (MayLeak e (BodyOf lemma.identity) → ⊥) → leaked ≡ nothing
 
 -- a lemma holds: from each part that satisfies its precondition it gives one that satisfies its postcondition
 abbrev pub LemmaHolds : Environment → ProgramTree → LemmaTree → Type 0

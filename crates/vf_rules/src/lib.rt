@@ -9,11 +9,12 @@
 //! one rule for each core step, with arrays of int (`specs/Arrays`), and the prelude's calls that concern mutexes and
 //! threads by their contracts (`specs/Mutexes`, `specs/Threads`); and rules for what annotations do between steps:
 //! leaks, what a state shows, case splits, switches over values, opening and closing, calls of lemmas (`specs/Lemmas`),
-//! coming to a loop's head. A claim is a refinement: with all of these ghost steps but leaks and loops
-//! (`specs/GhostSteps`) between its parts, the type's precondition is produced, the own one consumed, the own
-//! postcondition produced and the type's consumed. Premises are semantic. Laws: `producing_adds`, `consuming_takes`,
-//! `joining_keeps`, `changes_keep`, `opening_keeps`, `closing_keeps`, `entering_keeps`, `empty_cases_hold`; annotations
-//! that need no rule of their own: `asserting_is_accepted`, `choosing_is_accepted`.
+//! coming to a loop's head. A function's own contract refines that of its prototype and that of each type which it
+//! claims: with all of these ghost steps but leaks and loops (`specs/GhostSteps`) between its parts, the other
+//! precondition is produced, the own one consumed, the own postcondition produced and the other one consumed. Premises
+//! are semantic. Laws: `producing_adds`, `consuming_takes`, `joining_keeps`, `changes_keep`, `opening_keeps`,
+//! `closing_keeps`, `entering_keeps`, `empty_cases_hold`; annotations that need no rule of their own:
+//! `asserting_is_accepted`, `choosing_is_accepted`.
 #![tactic(auto)]
 
 mod ghost_laws;

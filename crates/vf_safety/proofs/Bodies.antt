@@ -1,13 +1,13 @@
 -- An accepted body is safe for every number of steps, where the functions of the program are safe for fewer.
 use Rattle.std.proofs.Common.{◌≡◌, ℕ, zero, suc, ◌<◌, ◌≤◌, not, List, ◌∷◌, slice_get, Some, refl, sym, ap, subst, inl, inr, arith}
-use Rattle.std.specs.Prelude.{IsTrue}
 use Rattle.std.proofs.lemmas.Bool.{cases_Bool}
 use Rattle.vf_tree.specs.Core.{FunctionTree, ProgramTree}
 use Rattle.vf_model.specs.State.{Frame, Thread, State}
 use Rattle.vf_meaning.specs.Fractions.{whole}
 use Rattle.vf_meaning.specs.Ghost.{Not}
 use Rattle.vf_meaning.specs.Valuations.{is_true}
-use Rattle.vf_meaning.specs.Assertions.{ContractTree, Environment}
+use Rattle.vf_meaning.specs.Assertions.{ContractTree, BeforeStep, Environment}
+use Rattle.vf_meaning.specs.Environments.{MayLeak}
 use Rattle.vf_meaning.specs.Parts.{Part, nothing}
 use Rattle.vf_meaning.specs.Kept.{LeaksNext}
 use Rattle.vf_meaning.proofs.Parts.{nothing_is_neutral}
@@ -70,9 +70,9 @@ module _ (e : Environment) (p : ProgramTree) (t : ℕ) (duty : Duties) (f : Func
   at_head n node st m frame callers own same r = subst (λ z. Ready e p t duty f k z st m frame callers own) (sym same) r
 
   -- ---- leaks
-  -- a leak that stands before a step stands there where the frame's next step is that one
-  leak_stands : (n : ℕ) (st : SymbolicState) (m : ℕ) (frame : Frame) (callers : Thread) (own : Part) → Ready e p t duty f k n st m frame callers own → IsTrue (e.leaks f.identity n) → (s : State) → slice_get s.threads t ≡ Some (frame ∷ callers) → LeaksNext e p s t
-  leak_stands n st m frame callers own r stands s here = record { f = f; frame = frame; callers = callers; frames = here; function = r.function; leaks = subst (λ z. IsTrue (e.leaks f.identity z)) (sym r.step) stands }
+  -- what may be leaked before a step may be leaked where the frame's next step is that one
+  leak_stands : (n : ℕ) (st : SymbolicState) (m : ℕ) (frame : Frame) (callers : Thread) (own : Part) → Ready e p t duty f k n st m frame callers own → MayLeak e (BeforeStep f.identity n) → (s : State) → slice_get s.threads t ≡ Some (frame ∷ callers) → LeaksNext e p s t
+  leak_stands n st m frame callers own r stands s here = record { f = f; frame = frame; callers = callers; frames = here; function = r.function; leaks = subst (λ z. MayLeak e (BeforeStep f.identity z)) (sym r.step) stands }
 
   -- ---- the whole body
   pub body_safe : {now soon : List Loop} {n : ℕ} {st : SymbolicState} → Accepts e p f k now soon n st → (m : ℕ) → HeadsSafe now (suc m) → HeadsSafe soon m → (frame : Frame) (callers : Thread) (own : Part) → Ready e p t duty f k n st m frame callers own → Safe e p t duty m (frame ∷ callers) own
@@ -147,7 +147,7 @@ module _ (e : Environment) (p : ProgramTree) (t : ℕ) (duty : Duties) (f : Func
       let c = lemma_called e p lemma ts outs st holds inhabited sorted consume frame.locals r.names r.symbols r.part r.stands (typed_of_left e p r.part r.kept own r.sums r.typed) in
       let less = apart c.leaked c.left r.part r.kept own c.sums r.sums in
       leaving_safe e p t duty (suc m) (frame ∷ callers) c.leaked less.0 own less.2
-      (λ s here none. elim (cases_Bool lemma.leaks) [ inl leaks ↦ absurd (none (leak_stands n st (suc m) frame callers own r (stands leaks) s here)) | inr leaks ↦ c.unleaked leaks ])
+      (λ s here none. c.unleaked (λ leaks. none (leak_stands n st (suc m) frame callers own r (stands leaks) s here)))
       (body_safe (go c.store c.state c.holds) (suc m) h i frame callers less.0
       (leaves_less e p t duty f k n st c.state (suc m) frame callers own less.0 r c.under c.left c.stands (typed_of_right e p c.leaked less.0 own less.2 r.typed) less.1))
   body_safe {now} {soon} {n} {st} (do_abort target g place next is named) (suc m) h i frame callers own r = abort_safe e p t duty f k n st m frame callers own target g place next r is named

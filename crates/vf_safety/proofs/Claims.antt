@@ -1,14 +1,16 @@
--- A function is safe under the contract of a type that it claims.
-use Rattle.std.proofs.Common.{◌≡◌, ℕ, zero, suc, ◌<◌, cond, List, [], ◌∷◌, length, slice_get, Option, Some, None, refl, sym, ap, subst, ◌∙◌, arith}
+-- A function is safe under each contract that its own one refines: that of its prototype, and that of a type that it claims.
+use Rattle.std.proofs.Common.{◌≡◌, ℕ, zero, suc, ◌<◌, pos, cond, List, [], ◌∷◌, length, slice_get, Option, Some, None, refl, sym, ap, subst, ◌∙◌, arith}
 use Rattle.vf_tree.specs.Core.{Identity, FunctionTree, ProgramTree}
 use Rattle.vf_model.specs.Values.{Value}
-use Rattle.vf_model.specs.State.{Thread}
+use Rattle.vf_model.specs.Values as values
+use Rattle.vf_model.specs.State.{Thread, entered}
 use Rattle.vf_meaning.specs.Fractions.{whole}
 use Rattle.vf_meaning.specs.Ghost.{Name, Numbered, Result, This, CurrentThread, Variable, Function}
 use Rattle.vf_meaning.specs.Valuations.{Valuation, bound}
 use Rattle.vf_meaning.specs.Assertions.{ContractTree, Environment}
 use Rattle.vf_meaning.specs.Sorts.{AreOfSorts, HasSort}
 use Rattle.vf_meaning.specs.Parts.{Part, nothing, IsSum}
+use Rattle.vf_meaning.specs.Satisfaction.{Satisfies}
 use Rattle.vf_meaning.specs.Kept.{IsFixed, Ensures, with_result}
 use Rattle.vf_meaning.proofs.Values.{tells_names}
 use Rattle.vf_rules.specs.Terms.{Term, stored}
@@ -20,7 +22,7 @@ use Rattle.vf_rules.specs.Produce.{Produce}
 use Rattle.vf_rules.specs.Laws.{IsAmong}
 use Rattle.vf_rules.specs.Predicates.{store_of}
 use Rattle.vf_rules.specs.Accept.{all_of_it, call_store, pointer_store, parameter_symbols, facts_of_types, facts_of_sorts, facts_of_result, HasContract, AreFixed}
-use Rattle.vf_rules.specs.Claims.{before_claim, Ends, StandsIn, Refines, AreClaimsKept}
+use Rattle.vf_rules.specs.Claims.{before_claim, Ends, StandsIn, Refines, RefinesType, RefinesPrototype, AreClaimsKept}
 use Rattle.vf_rules.specs.Claims as claims
 use Rattle.vf_rules.specs.GhostSteps.{AfterGhostSteps}
 use Rattle.vf_rules.proofs.Terms.{fresh_store, own_symbol, stored_own, stored_other, stored_means}
@@ -108,16 +110,18 @@ module _ (e : Environment) (p : ProgramTree) (t : ℕ) where
       without_result : (w : Valuation) (x : Value) (result : Option Value) (off : Part) → Ensures e contract (bound w Result x) result off → Ensures e contract w result off
       without_result w x result off h = record { later = h.later; fixed = λ n fix. h.fixed n fix ∙ fixed_same w x n fix; sorts = h.sorts; satisfies = h.satisfies }
 
-  -- a function is safe for as many steps under the contract of a type that it refines
-  refine_safe : (n number : ℕ) (f : FunctionTree) (own contract : ContractTree) (g : Identity) → HasContract e f own → Refines e p f own contract g → FunctionSafe e p t n number f own → TypeSafe e p t n number f contract g
-  refine_safe n number f own contract g has refines safe duty arguments w callers target q r owned long may begins thread this_is of_sorts required typed sums continues =
+  -- a function is safe for as many steps under a contract that its own one refines, where the terms that the refinement begins with have the values of the contract's names
+  refine_safe : (n number : ℕ) (f : FunctionTree) (own contract : ContractTree) (store : terms.Store) → HasContract e f own → Refines e p f own contract store → FunctionSafe e p t n number f own
+      → (duty : Duties) (arguments : List Value) (w : Valuation) (callers : Thread) (target : Option ℕ) (q r owned : Part) → length arguments ≡ contract.parameters → AllMayBe f.signature.parameters arguments
+      → ((j : ℕ) (a : Value) → slice_get arguments j ≡ Some a → w (Numbered j) ≡ a) → w CurrentThread ≡ values.Number (pos t) → (StoreMeans e w (call_store (parameter_symbols (length f.signature.parameters))) w → StoreMeans e w store w) → AreOfSorts e w contract.sorts → Satisfies e whole contract.requires_this w q → IsTypedPart e p owned
+      → IsSum q r owned → Continues e p t duty n callers target f.signature.result contract w r → Safe e p t duty n (entered number f arguments target ∷ callers) owned
+  refine_safe n number f own contract store has refines safe duty arguments w callers target q r owned long may begins thread means_names of_sorts required typed sums continues =
       let np = length f.signature.parameters in
       let symbols = parameter_symbols np in
       let count : length arguments ≡ np = long ∙ refines.parameters in
       let before = before_stands f contract arguments w count may begins of_sorts in
-      let type_means : StoreMeans e w (pointer_store symbols (Function g)) w = stored_means e w (call_store symbols) w This (Function g) (begins_mean e w np) (sym this_is) in
-      let o = produced e p contract.sorts all_of_it whole required.0 [] w contract.requires_this (pointer_store symbols (Function g)) (before_claim f contract) (IsAmong refines.outs) refines.required
-      w w q nothing q before type_means of_sorts refl positive_whole required.1 (typed_of_left e p q r owned sums typed) (neutral q) in
+      let o = produced e p contract.sorts all_of_it whole required.0 [] w contract.requires_this store (before_claim f contract) (IsAmong refines.outs) refines.required
+      w w q nothing q before (means_names (begins_mean e w np)) of_sorts refl positive_whole required.1 (typed_of_left e p q r owned sums typed) (neutral q) in
       let st : SymbolicState = record o.state { names = o.store } in
       let stands : StandsFor e o.under st [] w q = record { path = (o.stands).path; locals_mean = (o.stands).locals_mean; names_mean = o.means; chunks_mean = (o.stands).chunks_mean } in
       let g = reached e p (StandsIn e p f own contract) [] w q (typed_of_left e p q r owned sums typed) (refines.kept o.store o.state o.holds) o.under stands in
@@ -153,13 +157,24 @@ module _ (e : Environment) (p : ProgramTree) (t : ℕ) where
           clash : Numbered j ≡ CurrentThread → ⊥
           clash h = cc
 
+  -- under the contract of its prototype
+  pub prototype_safe : (n number : ℕ) (f : FunctionTree) (own contract : ContractTree) → HasContract e f own → RefinesPrototype e p f own contract → FunctionSafe e p t n number f own → FunctionSafe e p t n number f contract
+  prototype_safe n number f own contract has refines safe duty arguments w callers target q r owned long may begins thread of_sorts required typed sums continues =
+      refine_safe n number f own contract (call_store (parameter_symbols (length f.signature.parameters))) has refines safe duty arguments w callers target q r owned long may begins thread (λ h. h) of_sorts required typed sums continues
+
+  -- under the contract of a type
+  type_safe : (n number : ℕ) (f : FunctionTree) (own contract : ContractTree) (g : Identity) → HasContract e f own → RefinesType e p f own contract g → FunctionSafe e p t n number f own → TypeSafe e p t n number f contract g
+  type_safe n number f own contract g has refines safe duty arguments w callers target q r owned long may begins thread this_is of_sorts required typed sums continues =
+      let symbols = parameter_symbols (length f.signature.parameters) in
+      refine_safe n number f own contract (pointer_store symbols (Function g)) has refines safe duty arguments w callers target q r owned long may begins thread (λ h. stored_means e w (call_store symbols) w This (Function g) h (sym this_is)) of_sorts required typed sums continues
+
   pub types_safe : AreClaimsKept e p → (n : ℕ) → FunctionsSafe e p t n → TypesSafe e p t n
   types_safe claims n functions j l g type k claimed of_type number f named is =
       let c = claims g type k claimed of_type in
       let number_is : c.number ≡ number = some_same (sym c.named ∙ named) in
       let function_is : c.function ≡ f = some_same (sym c.is ∙ ap (slice_get p.functions) number_is ∙ is) in
       let has = subst (λ z. HasContract e z c.own) function_is c.has in
-      refine_safe j number f c.own k g has (subst (λ z. Refines e p z c.own k g) function_is c.refines) (functions j l number f c.own is has)
+      type_safe j number f c.own k g has (subst (λ z. RefinesType e p z c.own k g) function_is c.refines) (functions j l number f c.own is has)
     where
       some_same : {A : Type 0} {x y : A} → Some x ≡ Some y → x ≡ y
       some_same e = cc

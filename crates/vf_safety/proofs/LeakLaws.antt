@@ -3,7 +3,7 @@ use Rattle.std.proofs.Common.{◌≡◌, ◌≢◌, ℕ, zero, suc, ◌<◌, ◌
 use Rattle.std.specs.Prelude.{cond}
 use Rattle.std.specs.List.{range_with_len}
 use Rattle.std.specs.FinMap as finite
-use Rattle.std.proofs.lemmas.Bool.{false≢true, cases_eq}
+use Rattle.std.proofs.lemmas.Bool.{cases_eq}
 use Rattle.vf_tree.specs.Core.{Identity, ProgramTree}
 use Rattle.vf_model.specs.declared.words.Event.{Event}
 use Rattle.vf_model.specs.Values.{Value}
@@ -26,7 +26,7 @@ positive_whole = omega arith
 
 -- ---- what was leaked
 no_leak_next : (e : Environment) (p : ProgramTree) → LeaksNowhere e p → (s : State) (t : ℕ) → LeaksNext e p s t → ⊥
-no_leak_next e p none s t h = false≢true (sym (none (h.frame).function h.f (h.frame).step h.function) ∙ h.leaks)
+no_leak_next e p none s t h = none (h.frame).function h.f (h.frame).step h.function h.leaks
 
 -- what was leaked in share-outs is nothing where no leak stands
 pub never_leaked : (e : Environment) (p : ProgramTree) (events : List Event) → LeaksNowhere e p → (k : Kept e p events) → (n : ℕ) → n ≤ length events → (k.outs n).leaked ≡ nothing

@@ -328,7 +328,7 @@ module _ (e : Environment) (p : ProgramTree) (a : IsAcceptedProgram e p) (events
     main = a.main;
     is_main = a.is_main;
     contract = a.contract;
-    of_main = (a.has).known;
+    of_main = a.is_own;
     under = (begun e p a).names;
     current = (begun e p a).thread;
     sorts = (begun e p a).of_sorts;

@@ -9,6 +9,7 @@ use Rattle.vf_meaning.specs.Fractions.{whole}
 use Rattle.vf_meaning.specs.Ghost.{Numbered, CurrentThread}
 use Rattle.vf_meaning.specs.Valuations.{Valuation}
 use Rattle.vf_meaning.specs.Assertions.{ContractTree, Environment}
+use Rattle.vf_meaning.specs.Environments.{own_contract}
 use Rattle.vf_meaning.specs.Sorts.{AreOfSorts}
 use Rattle.vf_meaning.specs.Parts.{Part, nothing, IsSum}
 use Rattle.vf_meaning.specs.Satisfaction.{Satisfies}
@@ -18,7 +19,7 @@ use Rattle.vf_rules.specs.States.{SymbolicState}
 use Rattle.vf_rules.specs.Consume.{Consume}
 use Rattle.vf_rules.specs.Accept.{all_of_it, call_store, HasContract, IsAcceptedFunction}
 use Rattle.vf_rules.specs.GhostSteps.{AfterGhostSteps, NamesHave}
-use Rattle.vf_rules.specs.Claims.{AreClaimsKept}
+use Rattle.vf_rules.specs.Claims.{RefinesPrototype, AreClaimsKept}
 use Rattle.vf_safety.specs.Safe.{Duties, Safe, Continues}
 
 -- values are of the types of parameters, one by one
@@ -27,11 +28,18 @@ AreOfTypes [] [] = Unit {0}
 AreOfTypes (t ∷ types) (w ∷ ws) = IsOfType t w × AreOfTypes types ws
 AreOfTypes _ _ = ⊥
 
--- each function of a program that has a contract is accepted under it
-abbrev pub AreAccepted : Environment → ProgramTree → Type 0
-AreAccepted e p = (number : ℕ) (f : FunctionTree) (k : ContractTree) → slice_get p.functions number ≡ Some f → HasContract e f k → IsAcceptedFunction e p f k
+-- A function keeps its contracts: its body is accepted under its own, that of its definition, or of its prototype where the definition has none; and where both have one the own refines the prototype's
+pub record KeepsContracts (e : Environment) (p : ProgramTree) (f : FunctionTree) : Type 0 where
+  pub own : ContractTree
+  pub is_own : own_contract e f.identity ≡ Some own
+  pub accepted : IsAcceptedFunction e p f own
+  pub refines : (defined prototype : ContractTree) → e.functions f.identity ≡ Some defined → e.prototypes f.identity ≡ Some prototype → RefinesPrototype e p f defined prototype
 
--- a thread's part lets it call a function with arguments: they are of the parameters' types, and beside a rest the part is one that satisfies the precondition, under a valuation that gives the parameters the arguments, the thread its number, and each name a value of its sort
+-- each function of a program has a contract and keeps its contracts
+abbrev pub AreAccepted : Environment → ProgramTree → Type 0
+AreAccepted e p = (number : ℕ) (f : FunctionTree) → slice_get p.functions number ≡ Some f → KeepsContracts e p f
+
+-- a thread's part lets it call a function by one of its contracts with arguments: they are of the parameters' types, and beside a rest the part is one that satisfies the precondition, under a valuation that gives the parameters the arguments, the thread its number, and each name a value of its sort
 pub record MayCall (e : Environment) (p : ProgramTree) (t number : ℕ) (f : FunctionTree) (k : ContractTree) (arguments : List Value) (names : Valuation) (rest own : Part) : Type 0 where
   pub function : slice_get p.functions number ≡ Some f
   pub contract : HasContract e f k
@@ -44,14 +52,14 @@ pub record MayCall (e : Environment) (p : ProgramTree) (t number : ℕ) (f : Fun
   pub typed : IsTypedPart e p own
   pub sums : IsSum passed rest own
 
--- in a program whose functions are accepted and keep their claims, a call of one is safe for n steps beside whatever a thread keeps, where what comes after the call is, for fewer steps, with every part that satisfies the postcondition
+-- in a program whose functions are accepted and keep their claims, a call of one by either of its contracts is safe for n steps beside whatever a thread keeps, where what comes after the call is, for fewer steps, with every part that satisfies the postcondition
 abbrev pub AcceptedCallsAreSafe : Type 0
 AcceptedCallsAreSafe =
     (e : Environment) (p : ProgramTree) → AreAccepted e p → AreClaimsKept e p → (t : ℕ) (duties : Duties) (number : ℕ) (f : FunctionTree) (k : ContractTree) (arguments : List Value) (names : Valuation) (rest own : Part)
     → MayCall e p t number f k arguments names rest own → (callers : Thread) (target : Option ℕ) (n : ℕ)
     → Continues e p t duties n callers target f.signature.result k names rest → Safe e p t duties n (entered number f arguments target ∷ callers) own
 
--- in a program whose functions are accepted and keep their claims, a thread whose first call is of one is safe for every number of steps, and its duty is the postcondition
+-- in a program whose functions are accepted and keep their claims, a thread whose first call is of one by either of its contracts is safe for every number of steps, and its duty is that contract's postcondition
 abbrev pub AcceptedThreadsAreSafe : Type 0
 AcceptedThreadsAreSafe =
     (e : Environment) (p : ProgramTree) → AreAccepted e p → AreClaimsKept e p → (t number : ℕ) (f : FunctionTree) (k : ContractTree) (arguments : List Value) (names : Valuation) (own rest : Part)
@@ -66,13 +74,14 @@ before_main = record { locals = []; names = call_store []; chunks = []; path = [
 abbrev pub Begins : Environment → ProgramTree → ContractTree → SymbolicState → Type 0
 Begins e p contract st = NamesHave [] st × Consume e p contract.sorts all_of_it contract.requires_this (call_store []) st (λ s st1. st1.chunks ≡ [])
 
--- A program is accepted: each of its functions that has a contract is, and keeps the contracts of the types that it claims; main has one and no parameters, and after ghost steps from nothing it may begin
+-- A program is accepted: each of its functions is, and keeps the contracts of the types that it claims; main has no parameters, and after ghost steps from nothing it may begin, by its own contract
 pub record IsAcceptedProgram (e : Environment) (p : ProgramTree) : Type 0 where
   pub functions : AreAccepted e p
   pub claims : AreClaimsKept e p
   pub main : FunctionTree
   pub is_main : slice_get p.functions p.main ≡ Some main
   pub contract : ContractTree
+  pub is_own : own_contract e main.identity ≡ Some contract
   pub has : HasContract e main contract
   pub alone : main.signature.parameters ≡ []
   pub begins : AfterGhostSteps e p (Begins e p contract) before_main

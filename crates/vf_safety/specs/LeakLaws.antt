@@ -1,5 +1,5 @@
 -- What is leaked, and what is left where nothing is. Each law is the contract of a public function with an empty body.
-use Rattle.std.specs.Prelude.{◌≡◌, ◌≢◌, ℕ, suc, ◌<◌, ◌≤◌, IsFalse, length, slice_get, List, Option, Some, None}
+use Rattle.std.specs.Prelude.{◌≡◌, ◌≢◌, ℕ, suc, ◌<◌, ◌≤◌, length, slice_get, List, Option, Some, None}
 use Rattle.vf_tree.specs.Core.{FunctionTree, ProgramTree}
 use Rattle.vf_model.specs.declared.words.Event.{Event}
 use Rattle.vf_model.specs.Values.{Value}
@@ -7,7 +7,8 @@ use Rattle.vf_model.specs.Memory.{Block, Mutex, block_at}
 use Rattle.vf_model.specs.State.{State}
 use Rattle.vf_meaning.specs.Fractions.{IsPositive}
 use Rattle.vf_meaning.specs.Valuations.{Valuation}
-use Rattle.vf_meaning.specs.Assertions.{ContractTree, Environment}
+use Rattle.vf_meaning.specs.Assertions.{ContractTree, BeforeStep, Environment}
+use Rattle.vf_meaning.specs.Environments.{own_contract, MayLeak}
 use Rattle.vf_meaning.specs.Parts.{Location, MutexAt, HeldAt, HandleAt, Content, block_of, Part, nothing}
 use Rattle.vf_meaning.specs.Fits.{there}
 use Rattle.vf_meaning.specs.ShareOuts.{ShareOut, Ended, IsHandleOf}
@@ -15,16 +16,16 @@ use Rattle.vf_meaning.specs.Kept.{before, depth, Returns, Ensures, Kept}
 use Rattle.vf_safety.specs.Safe.{IsHandle}
 use Rattle.vf_safety.specs.Laws.{IsAcceptedProgram}
 
--- no leak stands anywhere in a program: before no step of any of its functions
+-- nothing may be leaked anywhere in a program: before no step of any of its functions, in no lemma that is called there
 abbrev pub LeaksNowhere : Environment → ProgramTree → Type 0
-LeaksNowhere e p = (number : ℕ) (f : FunctionTree) (n : ℕ) → slice_get p.functions number ≡ Some f → IsFalse (e.leaks f.identity n)
+LeaksNowhere e p = (number : ℕ) (f : FunctionTree) (n : ℕ) → slice_get p.functions number ≡ Some f → MayLeak e (BeforeStep f.identity n) → ⊥
 
 -- a program keeps what it owes over a list of events with share-outs whose leaked part is empty throughout
 pub record KeptUnleaked (e : Environment) (p : ProgramTree) (events : List Event) : Type 0 where
   pub kept : Kept e p events
   pub unleaked : (k : ℕ) → k ≤ length events → (kept.outs k).leaked ≡ nothing
 
--- in an accepted program in which no leak stands nothing is ever leaked
+-- in an accepted program in which nothing may be leaked nothing ever is
 abbrev pub NothingIsLeaked : Type 0
 NothingIsLeaked = (e : Environment) (p : ProgramTree) → IsAcceptedProgram e p → LeaksNowhere e p → (events : List Event) → KeptUnleaked e p events
 
@@ -62,7 +63,7 @@ pub record IsSettled (e : Environment) (p : ProgramTree) (events : List Event) (
   pub ensured : Ensures e (k.kept).contract (k.kept).under result (((k.kept).outs (suc j)).threads 0)
   pub lies : (l : Location) → IsThere (block_at (before p events (suc j)).memory (block_of l)) l → LiesIn (before p events (suc j)) ((k.kept).outs (suc j)) l
 
--- in an accepted program in which no leak stands nothing is lost where main has returned and every other thread has ended
+-- in an accepted program in which nothing may be leaked nothing is lost where main has returned and every other thread has ended
 abbrev pub NothingIsLost : Type 0
 NothingIsLost =
     (e : Environment) (p : ProgramTree) → IsAcceptedProgram e p → LeaksNowhere e p → (events : List Event)
@@ -71,7 +72,7 @@ NothingIsLost =
 -- whatever satisfies main's postcondition owns nothing
 abbrev pub OwnsNothingAtLast : Environment → ProgramTree → Type 0
 OwnsNothingAtLast e p =
-    (main : FunctionTree) (contract : ContractTree) → slice_get p.functions p.main ≡ Some main → e.functions main.identity ≡ Some contract
+    (main : FunctionTree) (contract : ContractTree) → slice_get p.functions p.main ≡ Some main → own_contract e main.identity ≡ Some contract
     → (names : Valuation) (result : Option Value) (q : Part) → Ensures e contract names result q → q ≡ nothing
 
 -- a state has no free mutex and no handle
@@ -79,7 +80,7 @@ pub record HasNoneShared (s : State) : Type 0 where
   pub mutexless : (b : ℕ) → block_at s.memory b ≢ Some (Mutex None)
   pub handleless : (b t : ℕ) → IsHandleOf s b t → ⊥
 
--- in an accepted program in which no leak stands, whose main is to own nothing at its end, no block is left where main has returned, every other thread has ended, and there is no free mutex and no handle
+-- in an accepted program in which nothing may be leaked, whose main is to own nothing at its end, no block is left where main has returned, every other thread has ended, and there is no free mutex and no handle
 abbrev pub NoBlockIsLeft : Type 0
 NoBlockIsLeft =
     (e : Environment) (p : ProgramTree) → IsAcceptedProgram e p → LeaksNowhere e p → OwnsNothingAtLast e p → (events : List Event) (j : ℕ) (result : Option Value)

@@ -188,7 +188,7 @@ HasBegun S _ s new = Unit {0}
 
 module _ (e : Environment) (p : ProgramTree) where
   module _ (t : ℕ) where
-    -- An event of the thread led to a state: the thread has other frames, duties and another part, the others have what they had but for what was given and what was leaked, which is nothing where no leak stands before the thread's step, all of it fits, no other thread and no mutex and handle was touched but for the exchange, what is left is safe, a call through a pointer is a new duty, and a return from a call with a duty does it, also the one that ends the thread
+    -- An event of the thread led to a state: the thread has other frames, duties and another part, the others have what they had but for what was given and what was leaked, which is nothing where nothing may be leaked before the thread's step, all of it fits, no other thread and no mutex and handle was touched but for the exchange, what is left is safe, a call through a pointer is a new duty, and a return from a call with a duty does it, also the one that ends the thread
     pub record Went (S : ℕ → Duties → Thread → Part → Type 0) (exchange : Exchange) (duties : Duties) (s new : State) (rest before : Part) : Type 0 where
       pub frames : Thread
       pub owing : Duties

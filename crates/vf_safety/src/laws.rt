@@ -2,7 +2,7 @@
 
 ghost use Rattle.vf_safety.specs.Laws.{AcceptedCallsAreSafe, AcceptedProgramsAreSafe, AcceptedThreadsAreSafe};
 
-/// A call of an accepted function is safe for every number of steps for which what comes after it is.
+/// A call of an accepted function by either of its contracts is safe for every number of steps for which what comes after it is.
 pub fn accepted_calls_are_safe()
     ensures { AcceptedCallsAreSafe }
 {}

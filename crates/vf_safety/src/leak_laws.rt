@@ -2,8 +2,8 @@
 
 ghost use Rattle.vf_safety.specs.LeakLaws.{NoBlockIsLeft, NothingIsLeaked, NothingIsLost};
 
-/// In an accepted program in which no leak stands, in no body and no lemma that one calls, nothing is ever
-/// leaked: on every list of events it keeps what it owes with share-outs whose leaked part is empty.
+/// In an accepted program in which nothing may be leaked, in no body and no lemma that one calls, nothing ever
+/// is: on every list of events it keeps what it owes with share-outs whose leaked part is empty.
 pub fn nothing_is_leaked()
     ensures { NothingIsLeaked }
 {}

@@ -4,14 +4,14 @@
 //! which has a law as its contract.
 //!
 //! In `specs/`: when a thread's frames with a part of memory and with what their calls owe are safe for a number of
-//! steps beside the parts of all other threads and mutexes, and when a program is accepted: main's precondition is
-//! consumed after ghost steps from nothing. Laws: `ghost_steps_keep` (what annotations do in claims and before main
-//! changes nothing of what a state stands for), `accepted_calls_are_safe`, `accepted_threads_are_safe`,
-//! `accepted_programs_are_safe` (with several threads and mutexes: no fault, no race, and what the program owes is kept
-//! on every list of events); the five lemmas of arrays as laws of parts (`rows_are_split`, `rows_are_joined` and more);
-//! what a read at an index of an array gives and what a write leaves, as terms and as cells (`items_are_nth`,
-//! `written_lists_are_set`, `cells_hold_nth` and more); what is leaked and what is left:
-//! `nothing_is_leaked`, `nothing_is_lost`, `no_block_is_left`.
+//! steps beside the parts of all other threads and mutexes, and when a program is accepted: each function keeps the
+//! contracts of its definition and its prototype, and main's precondition is consumed after ghost steps from nothing.
+//! Laws: `ghost_steps_keep` (what annotations do in claims and before main changes nothing of what a state stands for),
+//! `accepted_calls_are_safe`, `accepted_threads_are_safe`, `accepted_programs_are_safe` (with several threads and
+//! mutexes: no fault, no race, and what the program owes is kept on every list of events); the five lemmas of arrays as
+//! laws of parts (`rows_are_split`, `rows_are_joined` and more); what a read at an index of an array gives and what a
+//! write leaves, as terms and as cells (`items_are_nth`, `written_lists_are_set`, `cells_hold_nth` and more); what is
+//! leaked and what is left: `nothing_is_leaked`, `nothing_is_lost`, `no_block_is_left`.
 #![tactic(auto)]
 
 mod array_laws;

@@ -27,7 +27,7 @@ use Rattle.vf_model.proofs.Equality.{identities_told}
 use Rattle.vf_meaning.specs.Fractions.{whole}
 use Rattle.vf_meaning.specs.Valuations.{Valuation, no_value}
 use Rattle.vf_meaning.specs.Assertions.{Environment}
-use Rattle.vf_meaning.specs.Environments.{Extends}
+use Rattle.vf_meaning.specs.Environments.{option_or, own_contract, Extends}
 use Rattle.vf_meaning.specs.Parts.{nothing}
 use Rattle.vf_meaning.proofs.Parts.{nothing_is_neutral}
 use Rattle.vf_meaning.specs.Satisfaction.{Satisfies}
@@ -170,10 +170,10 @@ module _ (core : Core) (f : Function) (found : slice_get core.plain.functions co
     raceless = λ k within race. one_thread_has_no_race (program_of core.plain) _ (one_thread core.plain f core.contract.postcondition found in_order _ (good_throughout events k)) race;
   }
 
-  has_contract : (e : Environment) → Extends (environment_of core) e → e.functions (function_of f).identity ≡ Some (contract_of core.contract)
+  has_contract : (e : Environment) → Extends (environment_of core) e → own_contract e (function_of f).identity ≡ Some (contract_of core.contract)
   has_contract e extends =
-      extends.functions f.identity (contract_of core.contract)
-      (ap (λ o. main_contract (contract_of core.contract) o f.identity) found ∙ ap (λ b. cond b (Some (contract_of core.contract)) None) ((identities_told f.identity f.identity).1 refl))
+      ap (λ o. option_or o (e.prototypes f.identity)) (extends.functions f.identity (contract_of core.contract)
+      (ap (λ o. main_contract (contract_of core.contract) o f.identity) found ∙ ap (λ b. cond b (Some (contract_of core.contract)) None) ((identities_told f.identity f.identity).1 refl)))
 
   pub is_kept : (e : Environment) (events : List Event) → Extends (environment_of core) e → Kept e (program_of core.plain) events
   is_kept e events extends = record {

@@ -27,6 +27,7 @@ use Rattle.vf_asking.specs.Right.{IsRight, AreRightFrom}
 use Rattle.vf_exec.specs.Main.{required, fits, adds_one, adds, evaluates, returns, leaves, runs, enters, assumes, checks_function, checks_main, checks}
 use Rattle.vf_meaning.specs.Fractions.{whole}
 use Rattle.vf_meaning.specs.Assertions.{Environment, ContractTree}
+use Rattle.vf_meaning.specs.Environments.{option_or, own_contract}
 use Rattle.vf_meaning.specs.Valuations.{Valuation}
 use Rattle.vf_meaning.specs.GhostValues.{Interpretation, interpreted}
 use Rattle.vf_definitions.specs.Laws.{MeetsDefinitions}
@@ -158,6 +159,6 @@ unfolding promised
 broken_promise_is_seen e linked kept =
     let function = some_same kept.is_main in
     let declared : e.functions (codes "one.c#main") ≡ Some promised = (linked.all (environment_of seven_for_eight) (0, omega arith, refl)).functions (codes "one.c#main") promised refl in
-    let contract : promised ≡ kept.contract = some_same (sym declared ∙ ap (λ (f : FunctionTree). e.functions f.identity) function ∙ kept.of_main) in
+    let contract : promised ≡ kept.contract = some_same (sym (ap (λ o. option_or o (e.prototypes (codes "one.c#main"))) declared) ∙ ap (λ (f : FunctionTree). own_contract e f.identity) function ∙ kept.of_main) in
     let ensured = kept.ensured 0 _ (Some (values.Number (pos 7))) refl refl returns_seven refl in
     seven_is_not_eight e ensured.later _ (subst (λ (c : ContractTree). Satisfies e whole c.ensures_this (with_result ensured.later (Some (values.Number (pos 7)))) ((kept.outs 1).threads 0)) (sym contract) ensured.satisfies)

@@ -40,7 +40,9 @@ environment_of core = record {
   predicates = λ q. None;
   bodies = λ b. None;
   functions = main_contract (contract_of core.contract) (slice_get core.plain.functions core.plain.main);
+  prototypes = λ g. None;
   types = λ t. None;
   called = λ g n. None;
-  leaks = λ g n. false;
+  leaks = λ text. false;
+  calls = λ text g. false;
 }

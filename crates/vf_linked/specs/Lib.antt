@@ -1,0 +1,4 @@
+pub mod Refined
+pub mod CallOrder
+pub mod Lemmas
+pub mod Linked
