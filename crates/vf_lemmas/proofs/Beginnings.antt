@@ -49,9 +49,10 @@ module _ (e : Environment) (w : Valuation) where
   pub begins_mean : (n : ℕ) → StoreMeans e w (call_store (parameter_symbols n)) w
   begins_mean n = stored_means e w (store_of (parameter_symbols n)) w CurrentThread (Variable CurrentThread) (symbols_mean n) refl
 
-  pub beginning_stands : (k : ContractTree) → AreOfSorts e w k.sorts → StandsFor e w (lemma_beginning k) [] w nothing
+  pub beginning_stands : (k : ContractTree) → AreGhostValues e w k.sorts → StandsFor e w (lemma_beginning k) [] w nothing
   beginning_stands k of_sorts = record {
-    path = sorts_met 0 k.parameters k.sorts (λ j r is. subst (λ z. HasSort e (w (Numbered z)) r) (sym (zero_plus j)) (of_sorts j r is));
+    path = meets_more e w (facts_of_sorts k.sorts (parameter_symbols k.parameters)) facts_of_thread
+        (sorts_met 0 k.parameters k.sorts (λ j r is. subst (λ z. HasSort e (w (Numbered z)) r) (sym (zero_plus j)) (of_sorts.0 j r is))) (of_sorts.1, tt);
     locals_mean = tt;
     names_mean = begins_mean k.parameters;
     chunks_mean = refl;

@@ -35,17 +35,17 @@ use Rattle.vf_safety.proofs.GhostSteps.{reached}
 use Rattle.vf_safety.proofs.Ready.{FunctionSafe, TypeSafe, FunctionsSafe, TypesSafe, positive_whole, nothing_left, names_sorted}
 use Rattle.vf_safety.proofs.CallSteps.{result_or, with_result_means, with_result_sorted, result_value, result_facts, result_bound, sorted_arguments}
 use Rattle.vf_safety.proofs.Returns.{consumed_ensures, result_means, override, override_means}
-use Rattle.vf_safety.proofs.Functions.{row_of, zero_plus, types_met, sorts_met, begins_mean, neutral, symbol_is}
+use Rattle.vf_safety.proofs.Functions.{row_of, zero_plus, types_met, sorts_met, path_met, numbered_thread, begins_mean, neutral, symbol_is}
 
 module _ (e : Environment) (p : ProgramTree) (t : ℕ) where
   -- before a claim's precondition nothing is there
   before_stands : (f : FunctionTree) (contract : ContractTree) (arguments : List Value) (w : Valuation) → length arguments ≡ length f.signature.parameters → AllMayBe f.signature.parameters arguments
-      → ((j : ℕ) (a : Value) → slice_get arguments j ≡ Some a → w (Numbered j) ≡ a) → AreOfSorts e w contract.sorts → StandsFor e w (before_claim f contract) [] w nothing
-  before_stands f contract arguments w long may begins of_sorts =
+      → ((j : ℕ) (a : Value) → slice_get arguments j ≡ Some a → w (Numbered j) ≡ a) → AreOfSorts e w contract.sorts → HasSort e (w CurrentThread) Integers → StandsFor e w (before_claim f contract) [] w nothing
+  before_stands f contract arguments w long may begins of_sorts thread =
       let n = length f.signature.parameters in
       let row = row_of w 0 arguments (λ j a is. ap (λ z. w (Numbered z)) (zero_plus j) ∙ begins j a is) in
       record {
-        path = meets_more e w (facts_of_types f.signature.parameters (parameter_symbols n)) (facts_of_sorts contract.sorts (parameter_symbols n)) (types_met e w 0 n f.signature.parameters arguments long row may) (sorts_met e w 0 n contract.sorts (λ j r is. subst (λ z. HasSort e (w (Numbered z)) r) (sym (zero_plus j)) (of_sorts j r is)));
+        path = path_met e w n f.signature.parameters contract.sorts (types_met e w 0 n f.signature.parameters arguments long row may) (sorts_met e w 0 n contract.sorts (λ j r is. subst (λ z. HasSort e (w (Numbered z)) r) (sym (zero_plus j)) (of_sorts j r is))) thread;
         locals_mean = tt;
         names_mean = begins_mean e w n;
         chunks_mean = refl;
@@ -114,7 +114,7 @@ module _ (e : Environment) (p : ProgramTree) (t : ℕ) where
       let np = length f.signature.parameters in
       let symbols = parameter_symbols np in
       let count : length arguments ≡ np = long ∙ refines.parameters in
-      let before = before_stands f contract arguments w count may begins of_sorts in
+      let before = before_stands f contract arguments w count may begins of_sorts (numbered_thread e w t thread) in
       let type_means : StoreMeans e w (pointer_store symbols (Function g)) w = stored_means e w (call_store symbols) w This (Function g) (begins_mean e w np) (sym this_is) in
       let o = produced e p contract.sorts all_of_it whole required.0 [] w contract.requires_this (pointer_store symbols (Function g)) (before_claim f contract) (IsAmong refines.outs) refines.required
       w w q nothing q before type_means of_sorts refl positive_whole required.1 (typed_of_left e p q r owned sums typed) (neutral q) in
