@@ -16,7 +16,7 @@ use Rattle.vf_rules.specs.Laws.{IsAmong}
 use Rattle.vf_rules.specs.Accept.{all_of_it, call_store, parameter_symbols}
 use Rattle.vf_rules.proofs.Patterns.{patterns_read}
 use Rattle.vf_rules.proofs.Produces.{produced, typed_right}
-use Rattle.vf_rules.specs.Lemmas.{LemmaTree, Gives, LemmaHolds}
+use Rattle.vf_rules.specs.Lemmas.{LemmaTree, Gives, AreGhostValues, LemmaHolds}
 use Rattle.vf_lemmas.specs.Depths.{rest_of}
 use Rattle.vf_lemmas.specs.Proves.{lemma_beginning, IsAcceptedLemma, with_all, with_first_aside, AreAcceptedLemmas}
 use Rattle.vf_lemmas.specs.Laws.{AcceptedLemmasHold}

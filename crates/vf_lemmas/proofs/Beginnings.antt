@@ -3,12 +3,14 @@ use Rattle.std.proofs.Common.{◌≡◌, ℕ, zero, suc, ◌+◌, List, [], ◌�
 use Rattle.vf_meaning.specs.Ghost.{Sort, Numbered, Result, This, CurrentThread, Variable}
 use Rattle.vf_meaning.specs.Valuations.{Valuation}
 use Rattle.vf_meaning.specs.Assertions.{ContractTree, Environment}
-use Rattle.vf_meaning.specs.Sorts.{HasSort, AreOfSorts}
+use Rattle.vf_meaning.specs.Sorts.{HasSort}
 use Rattle.vf_meaning.specs.Parts.{nothing}
 use Rattle.vf_rules.specs.Terms.{Term}
-use Rattle.vf_rules.specs.States.{value_in, Meets, StoreMeans, StandsFor}
+use Rattle.vf_rules.specs.States.{value_in, Meets, facts_of_thread, StoreMeans, StandsFor}
 use Rattle.vf_rules.specs.Fresh.{symbol}
 use Rattle.vf_rules.specs.Predicates.{store_of}
+use Rattle.vf_rules.specs.Lemmas.{AreGhostValues}
+use Rattle.vf_rules.proofs.Stands.{meets_more}
 use Rattle.vf_rules.specs.Accept.{facts_of_sorts, call_store, symbols_from, parameter_symbols}
 use Rattle.vf_rules.proofs.Terms.{stored_means}
 use Rattle.vf_lemmas.specs.Proves.{lemma_beginning}

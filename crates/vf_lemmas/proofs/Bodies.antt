@@ -27,7 +27,7 @@ use Rattle.vf_rules.proofs.Takes.{changes_stand}
 use Rattle.vf_rules.proofs.Consumes.{consumed}
 use Rattle.vf_rules.proofs.Opening.{opening_keeps, closing_keeps, still_mean, completed, completed_means, completed_sorted}
 use Rattle.vf_rules.proofs.Loops.{store_sorted}
-use Rattle.vf_rules.specs.Lemmas.{OnArgument, LemmaTree, Gives}
+use Rattle.vf_rules.specs.Lemmas.{OnArgument, LemmaTree, Gives, AreGhostValues}
 use Rattle.vf_lemmas.specs.Depths.{rest_of, Aside}
 use Rattle.vf_lemmas.specs.Proves.{MayCall, earlier, whole_cell_left, smaller_argument, Proves, may_end, may_drop, may_change, may_open, may_close, may_see, may_split, may_know, may_leak, may_call, may_call_held, may_put_back, may_split_aside, may_open_aside, may_call_inside}
 use Rattle.vf_lemmas.proofs.Ends.{end_gives}

@@ -4,7 +4,7 @@ use Rattle.vf_tree.specs.Core.{Identity, FunctionTree, ProgramTree}
 use Rattle.vf_model.specs.Values.{Value}
 use Rattle.vf_model.specs.State.{Thread}
 use Rattle.vf_meaning.specs.Fractions.{whole}
-use Rattle.vf_meaning.specs.Ghost.{Name, Numbered, Result, This, CurrentThread, Variable, Function}
+use Rattle.vf_meaning.specs.Ghost.{Integers, Name, Numbered, Result, This, CurrentThread, Variable, Function}
 use Rattle.vf_meaning.specs.Valuations.{Valuation, bound}
 use Rattle.vf_meaning.specs.Assertions.{ContractTree, Environment}
 use Rattle.vf_meaning.specs.Sorts.{AreOfSorts, HasSort}
@@ -19,12 +19,12 @@ use Rattle.vf_rules.specs.Types.{IsTypedPart}
 use Rattle.vf_rules.specs.Produce.{Produce}
 use Rattle.vf_rules.specs.Laws.{IsAmong}
 use Rattle.vf_rules.specs.Predicates.{store_of}
-use Rattle.vf_rules.specs.Accept.{all_of_it, call_store, pointer_store, parameter_symbols, facts_of_types, facts_of_sorts, facts_of_result, HasContract, AreFixed}
+use Rattle.vf_rules.specs.Accept.{all_of_it, call_store, pointer_store, parameter_symbols, facts_of_result, HasContract, AreFixed}
 use Rattle.vf_rules.specs.Claims.{before_claim, Ends, StandsIn, Refines, AreClaimsKept}
 use Rattle.vf_rules.specs.Claims as claims
 use Rattle.vf_rules.specs.GhostSteps.{AfterGhostSteps}
 use Rattle.vf_rules.proofs.Terms.{fresh_store, own_symbol, stored_own, stored_other, stored_means}
-use Rattle.vf_rules.proofs.Stands.{meets_more, stands_fresh, assuming_all_stands}
+use Rattle.vf_rules.proofs.Stands.{stands_fresh, assuming_all_stands}
 use Rattle.vf_rules.proofs.Produces.{produced}
 use Rattle.vf_rules.proofs.Consumes.{consumed}
 use Rattle.vf_rules.proofs.Opening.{completed, completed_means, completed_sorted}

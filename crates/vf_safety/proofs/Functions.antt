@@ -1,17 +1,18 @@
 -- Accepted functions are safe: their beginnings stand for the part that satisfies the precondition, and their bodies are safe from there.
-use Rattle.std.proofs.Common.{◌≡◌, ℕ, zero, suc, ◌<◌, ◌+◌, ◌-◌, List, [], ◌∷◌, ◌++◌, length, map, replicate, slice_get, Some, None, refl, sym, ap, subst, ◌∙◌, arith}
+use Rattle.std.proofs.Common.{◌≡◌, ℕ, zero, suc, ◌<◌, ◌+◌, ◌-◌, List, [], ◌∷◌, ◌++◌, length, map, replicate, slice_get, Some, None, refl, sym, ap, subst, ◌∙◌, inl, pos, arith}
 use Rattle.vf_tree.specs.Core.{TypeTree, Void, Integer, PointerToVoid, PointerToInt, PointerToStruct, PointerToFunction, FunctionTree, ProgramTree}
 use Rattle.vf_model.specs.Values.{Value}
+use Rattle.vf_model.specs.Values as values
 use Rattle.vf_model.specs.State.{entered, locals_of}
 use Rattle.vf_meaning.specs.Fractions.{whole}
-use Rattle.vf_meaning.specs.Ghost.{Sort, Numbered, Result, This, CurrentThread, Variable}
+use Rattle.vf_meaning.specs.Ghost.{Sort, Integers, Numbered, Result, This, CurrentThread, Variable}
 use Rattle.vf_meaning.specs.Valuations.{Valuation}
 use Rattle.vf_meaning.specs.Assertions.{ContractTree, Environment}
 use Rattle.vf_meaning.specs.Sorts.{HasSort, AreOfSorts}
 use Rattle.vf_meaning.specs.Parts.{Part, nothing, IsSum}
 use Rattle.vf_meaning.proofs.Parts.{sums_turn, nothing_is_neutral}
 use Rattle.vf_rules.specs.Terms.{Term}
-use Rattle.vf_rules.specs.States.{value_in, Meets, LocalsMean, StoreMeans, StandsFor}
+use Rattle.vf_rules.specs.States.{value_in, Meets, facts_of_thread, LocalsMean, StoreMeans, StandsFor}
 use Rattle.vf_rules.specs.Fresh.{symbol}
 use Rattle.vf_rules.specs.Types.{facts_of_type}
 use Rattle.vf_rules.specs.Laws.{IsAmong}
@@ -105,7 +106,7 @@ neutral q = sums_turn nothing q q (nothing_is_neutral q)
 pub path_met : (e : Environment) (w : Valuation) (n : ℕ) (types : List TypeTree) (sorts : List Sort) → Meets e w (facts_of_types types (parameter_symbols n)) → Meets e w (facts_of_sorts sorts (parameter_symbols n)) → HasSort e (w CurrentThread) Integers
     → Meets e w (facts_of_types types (parameter_symbols n) ++ facts_of_sorts sorts (parameter_symbols n) ++ facts_of_thread)
 path_met e w n types sorts of_types of_sorts thread =
-    meets_more e w (facts_of_types types (parameter_symbols n)) (facts_of_sorts sorts (parameter_symbols n) ++ facts_of_thread) of_types (meets_more e w (facts_of_sorts sorts (parameter_symbols n)) facts_of_thread of_sorts (thread, tt))
+    meets_more e w (facts_of_types types (parameter_symbols n) ++ facts_of_sorts sorts (parameter_symbols n)) facts_of_thread (meets_more e w (facts_of_types types (parameter_symbols n)) (facts_of_sorts sorts (parameter_symbols n)) of_types of_sorts) (thread, tt)
 
 -- a thread is named by a number
 pub numbered_thread : (e : Environment) (w : Valuation) (t : ℕ) → w CurrentThread ≡ values.Number (pos t) → HasSort e (w CurrentThread) Integers
