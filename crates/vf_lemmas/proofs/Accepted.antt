@@ -11,12 +11,12 @@ use Rattle.vf_meaning.proofs.Parts.{sums_turn, nothing_is_neutral}
 use Rattle.vf_rules.specs.Terms.{Store}
 use Rattle.vf_rules.specs.States.{SymbolicState, StoreMeans, StandsFor}
 use Rattle.vf_rules.specs.Types.{IsTypedPart}
-use Rattle.vf_rules.specs.Produce.{Produce}
+use Rattle.vf_rules.specs.Produce.{NoArgumentSort, Produce}
 use Rattle.vf_rules.specs.Laws.{IsAmong}
 use Rattle.vf_rules.specs.Accept.{all_of_it, call_store, parameter_symbols}
 use Rattle.vf_rules.proofs.Patterns.{patterns_read}
 use Rattle.vf_rules.proofs.Produces.{produced, typed_right}
-use Rattle.vf_rules.specs.Lemmas.{LemmaTree, Gives, LemmaHolds}
+use Rattle.vf_rules.specs.Lemmas.{LemmaTree, Gives, AreGhostValues, LemmaHolds}
 use Rattle.vf_lemmas.specs.Depths.{rest_of}
 use Rattle.vf_lemmas.specs.Proves.{lemma_beginning, IsAcceptedLemma, with_all, with_first_aside}
 use Rattle.vf_lemmas.specs.Laws.{AcceptedLemmasHold}
@@ -53,24 +53,24 @@ module _ (e : Environment) (p : ProgramTree) (lemmas : List LemmaTree) where
 
   -- a lemma gives its postcondition where the lemmas that its body may call do
   once : (place : ℕ) (lemma : LemmaTree) → slice_get lemmas place ≡ Some lemma → IsAcceptedLemma e p lemmas place lemma → (n m : ℕ) (w : Valuation) (q : Part) → HasFall e lemma.contract lemma.falls w q n → HasMass m q
-      → AreOfSorts e w lemma.contract.sorts → IsTypedPart e p q → Satisfies e whole lemma.contract.requires_this w q → Usable e p lemmas lemma place n m → Gives e lemma w q
+      → AreGhostValues e w lemma.contract.sorts → IsTypedPart e p q → Satisfies e whole lemma.contract.requires_this w q → Usable e p lemmas lemma place n m → Gives e lemma w q
   once place lemma here (with_all outs produce go) n m w q fall mass of_sorts typed required usable =
       let k = lemma.contract in
       let o = produced e p k.sorts all_of_it whole required.0 [] w k.requires_this (call_store (parameter_symbols k.parameters)) (lemma_beginning k) (IsAmong outs) produce
-      w w q nothing q (beginning_stands e w k of_sorts) (begins_mean e w k.parameters) of_sorts refl positive_whole required.1 typed (neutral q) in
+      w w q nothing q (beginning_stands e w k of_sorts) (begins_mean e w k.parameters) of_sorts.0 refl positive_whole required.1 typed (neutral q) in
       body_gives e p lemmas lemma place (go o.store o.state o.holds) here w n m (λ i is. subst (λ f. HasFall e k f w q n) is fall) usable o.under w q q
-      (record { fixed = λ x f. refl; of_sorts = of_sorts; aside = nothing; sums = neutral q; asides_mean = refl; typed = typed; mass = mass }) (named o.under w o.store o.state q o.means o.stands)
+      (record { fixed = λ x f. refl; of_sorts = of_sorts.0; aside = nothing; sums = neutral q; asides_mean = refl; typed = typed; mass = mass }) (named o.under w o.store o.state q o.means o.stands)
   once place lemma here (with_first_aside names outs falls read go) n m w q fall mass of_sorts typed required usable =
       let k = lemma.contract in
       let at : FirstAt e k.requires_this w n q = subst (λ f. HasFall e k f w q n) falls fall in
-      let r = patterns_read e p k.sorts all_of_it (λ ts s st. Produce e p k.sorts all_of_it (rest_of k.requires_this) s st (IsAmong outs)) [] w w nothing of_sorts 0 (map (λ x. Names x) names) (call_store (parameter_symbols k.parameters)) (lemma_beginning k) [] read
-      w [] (beginning_stands e w k of_sorts) (begins_mean e w k.parameters) in
-      let o = produced e p k.sorts all_of_it whole at.depth [] w (rest_of k.requires_this) r.store r.state (IsAmong outs) r.holds r.under w at.others nothing at.others r.stands r.means of_sorts refl positive_whole at.rest_holds
+      let r = patterns_read e p k.sorts all_of_it (λ ts s st. Produce e p k.sorts all_of_it (rest_of k.requires_this) s st (IsAmong outs)) [] w w nothing of_sorts.0 NoArgumentSort 0 (map (λ x. Names x) names) (call_store (parameter_symbols k.parameters)) (lemma_beginning k) [] read
+      w [] (λ j so never. absurd never) (beginning_stands e w k of_sorts) (begins_mean e w k.parameters) in
+      let o = produced e p k.sorts all_of_it whole at.depth [] w (rest_of k.requires_this) r.store r.state (IsAmong outs) r.holds r.under w at.others nothing at.others r.stands r.means of_sorts.0 refl positive_whole at.rest_holds
       (typed_right e p at.first at.others q at.sums typed) (neutral at.others) in
       body_gives e p lemmas lemma place (go o.store o.state o.holds) here w n m (λ i is. subst (λ f. HasFall e k f w q n) is fall) usable o.under w at.others q
       (record {
         fixed = λ x f. refl;
-        of_sorts = of_sorts;
+        of_sorts = of_sorts.0;
         aside = at.first;
         sums = sums_turn at.first at.others q at.sums;
         asides_mean = (at.first, nothing, neutral at.first, (n, own_depth n, at.first_holds), refl);
@@ -84,11 +84,11 @@ module _ (e : Environment) (p : ProgramTree) (lemmas : List LemmaTree) where
 
   -- the lemma gives its postcondition wherever the part owns at most m
   abbrev HoldsWith : LemmaTree → ℕ → Type 0
-  HoldsWith lemma m = (w : Valuation) (q : Part) → HasMass m q → AreOfSorts e w lemma.contract.sorts → IsTypedPart e p q → Satisfies e whole lemma.contract.requires_this w q → Gives e lemma w q
+  HoldsWith lemma m = (w : Valuation) (q : Part) → HasMass m q → AreGhostValues e w lemma.contract.sorts → IsTypedPart e p q → Satisfies e whole lemma.contract.requires_this w q → Gives e lemma w q
 
   -- and so wherever besides what falls has a size
   abbrev HoldsAt : LemmaTree → ℕ → ℕ → Type 0
-  HoldsAt lemma m n = (w : Valuation) (q : Part) → HasFall e lemma.contract lemma.falls w q n → HasMass m q → AreOfSorts e w lemma.contract.sorts → IsTypedPart e p q → Satisfies e whole lemma.contract.requires_this w q → Gives e lemma w q
+  HoldsAt lemma m n = (w : Valuation) (q : Part) → HasFall e lemma.contract lemma.falls w q n → HasMass m q → AreGhostValues e w lemma.contract.sorts → IsTypedPart e p q → Satisfies e whole lemma.contract.requires_this w q → Gives e lemma w q
 
   abbrev pub HoldsHere : ℕ → Type 0
   HoldsHere place = (lemma : LemmaTree) → slice_get lemmas place ≡ Some lemma → LemmaHolds e p lemma
@@ -101,7 +101,7 @@ module _ (e : Environment) (p : ProgramTree) (lemmas : List LemmaTree) where
         | inl h ↦ before number h callee there under r sorts1 typed1 required1
         | inr h ↦
             let same : lemma ≡ callee = some_same (sym is ∙ subst (λ z. slice_get lemmas z ≡ Some callee) h.0 there) in
-            subst (λ z. AreOfSorts e under z.contract.sorts → Satisfies e whole z.contract.requires_this under r → Gives e z under r) same
+            subst (λ z. AreGhostValues e under z.contract.sorts → Satisfies e whole z.contract.requires_this under r → Gives e z under r) same
             (λ sorts2 required2. elim h.1 [
               | inl owns ↦ less owns.0 owns.1 under r owns.2 sorts2 typed1 required2
               | inr own ↦ smaller (own.1).0 (own.1).1 under r (own.1).2 own.0 sorts2 typed1 required2

@@ -3,12 +3,14 @@ use Rattle.std.proofs.Common.{◌≡◌, ℕ, zero, suc, ◌+◌, List, [], ◌�
 use Rattle.vf_meaning.specs.Ghost.{Sort, Numbered, Result, This, CurrentThread, Variable}
 use Rattle.vf_meaning.specs.Valuations.{Valuation}
 use Rattle.vf_meaning.specs.Assertions.{ContractTree, Environment}
-use Rattle.vf_meaning.specs.Sorts.{HasSort, AreOfSorts}
+use Rattle.vf_meaning.specs.Sorts.{HasSort}
 use Rattle.vf_meaning.specs.Parts.{nothing}
 use Rattle.vf_rules.specs.Terms.{Term}
-use Rattle.vf_rules.specs.States.{value_in, Meets, StoreMeans, StandsFor}
+use Rattle.vf_rules.specs.States.{value_in, Meets, facts_of_thread, StoreMeans, StandsFor}
 use Rattle.vf_rules.specs.Fresh.{symbol}
 use Rattle.vf_rules.specs.Predicates.{store_of}
+use Rattle.vf_rules.specs.Lemmas.{AreGhostValues}
+use Rattle.vf_rules.proofs.Stands.{meets_more}
 use Rattle.vf_rules.specs.Accept.{facts_of_sorts, call_store, symbols_from, parameter_symbols}
 use Rattle.vf_rules.proofs.Terms.{stored_means}
 use Rattle.vf_lemmas.specs.Proves.{lemma_beginning}
@@ -49,9 +51,10 @@ module _ (e : Environment) (w : Valuation) where
   pub begins_mean : (n : ℕ) → StoreMeans e w (call_store (parameter_symbols n)) w
   begins_mean n = stored_means e w (store_of (parameter_symbols n)) w CurrentThread (Variable CurrentThread) (symbols_mean n) refl
 
-  pub beginning_stands : (k : ContractTree) → AreOfSorts e w k.sorts → StandsFor e w (lemma_beginning k) [] w nothing
+  pub beginning_stands : (k : ContractTree) → AreGhostValues e w k.sorts → StandsFor e w (lemma_beginning k) [] w nothing
   beginning_stands k of_sorts = record {
-    path = sorts_met 0 k.parameters k.sorts (λ j r is. subst (λ z. HasSort e (w (Numbered z)) r) (sym (zero_plus j)) (of_sorts j r is));
+    path = meets_more e w (facts_of_sorts k.sorts (parameter_symbols k.parameters)) facts_of_thread
+        (sorts_met 0 k.parameters k.sorts (λ j r is. subst (λ z. HasSort e (w (Numbered z)) r) (sym (zero_plus j)) (of_sorts.0 j r is))) (of_sorts.1, tt);
     locals_mean = tt;
     names_mean = begins_mean k.parameters;
     chunks_mean = refl;

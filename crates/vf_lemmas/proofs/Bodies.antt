@@ -27,13 +27,13 @@ use Rattle.vf_rules.proofs.Takes.{changes_stand}
 use Rattle.vf_rules.proofs.Consumes.{consumed}
 use Rattle.vf_rules.proofs.Opening.{opening_keeps, closing_keeps, still_mean, completed, completed_means, completed_sorted}
 use Rattle.vf_rules.proofs.Loops.{store_sorted}
-use Rattle.vf_rules.specs.Lemmas.{OnArgument, LemmaTree, Gives}
+use Rattle.vf_rules.specs.Lemmas.{OnArgument, LemmaTree, Gives, AreGhostValues}
 use Rattle.vf_lemmas.specs.Depths.{rest_of, Aside}
 use Rattle.vf_lemmas.specs.Proves.{MayCall, earlier, whole_cell_left, smaller_argument, Proves, may_end, may_drop, may_change, may_open, may_close, may_see, may_split, may_know, may_leak, may_call, may_call_held, may_put_back, may_split_aside, may_open_aside, may_call_inside}
 use Rattle.vf_lemmas.proofs.Ends.{end_gives}
 use Rattle.vf_lemmas.proofs.Masses.{HasMass, mass_left, mass_falls}
 use Rattle.vf_lemmas.proofs.Cells.{whole_cell}
-use Rattle.vf_rules.proofs.LemmaCalls.{sorted_arguments, lemma_called}
+use Rattle.vf_rules.proofs.LemmaCalls.{sorted_arguments, called_thread, lemma_called}
 use Rattle.vf_lemmas.proofs.Asides.{only_left, FirstAt, first_back, IsBelow, AsideMeans, less_below}
 use Rattle.vf_lemmas.proofs.Around.{HasFall, Around, part_typed, with_less, back, split_around, still_named, opened_around}
 
@@ -70,7 +70,7 @@ module _ (e : Environment) (p : ProgramTree) (lemmas : List LemmaTree) (own : Le
 
   -- each lemma that may be called, where what falls has size n and the own part owns at most m, gives its postcondition
   abbrev pub Usable : ℕ → ℕ → Type 0
-  Usable n m = (number : ℕ) (lemma : LemmaTree) → slice_get lemmas number ≡ Some lemma → (under : Valuation) (q : Part) → AreOfSorts e under lemma.contract.sorts → IsTypedPart e p q → Satisfies e whole lemma.contract.requires_this under q
+  Usable n m = (number : ℕ) (lemma : LemmaTree) → slice_get lemmas number ≡ Some lemma → (under : Valuation) (q : Part) → AreGhostValues e under lemma.contract.sorts → IsTypedPart e p q → Satisfies e whole lemma.contract.requires_this under q
       → Lower n m number under q → Gives e lemma under q
 
   -- where a value falls its size is n at the beginning
@@ -160,7 +160,7 @@ module _ (e : Environment) (p : ProgramTree) (lemmas : List LemmaTree) (own : Le
       let c = consumed e p sorts all_of_it whole [] names a store st (IsAmong outs) consume v part stands (store_sorted e v st.path sorts store sorted stands.path) refl in
       let (less, gone, rest) = with_less e p own names asides w n m c.off c.left part q c.sums around in
       with_leaked e own w less c.off q (sums_turn c.off less q gone) (λ h. absurd (h leaks)) (body_gives (go c.store c.state c.holds) here w n m sized usable c.under names c.left less rest c.stands)
-  body_gives {asides} {st} (may_call number callee ts outs is leaks inhabited long sorted consume go) here w n m sized usable v names part q around stands =
+  body_gives {asides} {st} (may_call number callee ts outs is leaks inhabited long sorted knows consume go) here w n m sized usable v names part q around stands =
       let c = consumed e p callee.contract.sorts all_of_it whole [] names callee.contract.requires_this (call_store ts) st _ consume v part stands (sorted_arguments e v st.path callee.contract.sorts ts sorted stands.path) refl in
       let under = completed e c.under callee.contract.sorts inhabited c.store in
       let means = completed_means e c.under callee.contract.sorts inhabited c.store in
@@ -168,11 +168,11 @@ module _ (e : Environment) (p : ProgramTree) (lemmas : List LemmaTree) (own : Le
       let there = argument_there ts k z h in
       sym (means (Numbered k) z (c.grows (Numbered k) z there)) ∙ c.stays (Numbered k) z there in
       let typed = part_typed e p own names asides w n m part q around in
-      let g = usable number callee is under c.off (completed_sorted e c.under callee.contract.sorts inhabited c.store c.sorted) (typed_left e p c.off c.left part c.sums typed) (c.depth, c.satisfies under means)
+      let g = usable number callee is under c.off (completed_sorted e c.under callee.contract.sorts inhabited c.store c.sorted, called_thread e v c.under st.path ts c.store under knows stands.path c.grows c.stays means) (typed_left e p c.off c.left part c.sums typed) (c.depth, c.satisfies under means)
       (lower_call v c.under w names under st c.state ts part c.off c.left n m number stands c.stands c.sums (mass_left m part around.aside q around.sums around.mass) around.fixed sized value_is (c.holds).0) in
       after_call callee outs leaks asides w names n m (λ s su among v2 part2 q2 around2 stands2. body_gives (go s su among) here w n m sized usable v2 names part2 q2 around2 stands2) c.under under c.store c.state c.off c.left part q c.sums around (c.holds).1 means (c.holds).2 c.stands g
-  body_gives {asides} {st} (may_call_held lemma ts outs holds leaks inhabited long sorted consume go) here w n m sized usable v names part q around stands =
-      let o = lemma_called e p lemma ts outs st holds inhabited sorted consume [] names v part stands (part_typed e p own names asides w n m part q around) in
+  body_gives {asides} {st} (may_call_held lemma ts outs holds leaks inhabited long sorted knows consume go) here w n m sized usable v names part q around stands =
+      let o = lemma_called e p lemma ts outs st holds inhabited sorted knows consume [] names v part stands (part_typed e p own names asides w n m part q around) in
       let (less, gone, rest) = with_less e p own names asides w n m o.leaked o.left part q o.sums around in
       with_leaked e own w less o.leaked q (sums_turn o.leaked less q gone) (λ h. o.unleaked (λ l. h (leaks l))) (body_gives (go o.store o.state o.holds) here w n m sized usable o.under names o.left less rest o.stands)
   body_gives {asides} {st} (may_put_back {others = others} b outs taken produce go) here w n m sized usable v names part q around stands =
@@ -190,7 +190,7 @@ module _ (e : Environment) (p : ProgramTree) (lemmas : List LemmaTree) (own : Le
       let typed_more = part_typed e p own i.later _ w n m more q now in
       let o = produced e p sorts all_of_it whole i.depth [] i.later rest st.names st (IsAmong outs) produce v i.later i.left part more (under_names v names i.later st part means stands) means i.of_sorts refl positive_whole i.rest_holds (typed_left e p i.left part more both typed_more) both in
       body_gives (go o.store o.state o.holds) here w n m sized usable o.under i.later more q now (renamed o.under i.later o.store o.state more o.means o.stands)
-  body_gives {asides} {st} (may_call_inside {others = others} b ts store outs taken inside falls inhabited long first consume go) here w n m sized usable v names part q around stands =
+  body_gives {asides} {st} (may_call_inside {others = others} b ts store outs taken inside falls inhabited long knows first consume go) here w n m sized usable v names part q around stands =
       let k = back e p own names b taken w n m part q around in
       let c = consumed e p own.contract.sorts all_of_it whole [] names (rest_of own.contract.requires_this) store st _ consume v part stands (store_sorted e v st.path own.contract.sorts store first.sorted stands.path) refl in
       let under = completed e c.under own.contract.sorts inhabited c.store in
@@ -205,6 +205,7 @@ module _ (e : Environment) (p : ProgramTree) (lemmas : List LemmaTree) (own : Le
       let at : FirstAt e own.contract.requires_this under j all = record { first = k.off; others = c.off; sums = sums_turn c.off k.off all both; first_holds = fits; depth = c.depth; rest_holds = rest_holds } in
       let required = first_back e own.contract.requires_this under j c.depth k.off c.off all (sums_turn c.off k.off all both) fits rest_holds in
       let mass = mass_left m all c.left k.now sums (mass_left m k.now (k.around).aside q (k.around).sums (k.around).mass) in
-      let g = usable place own here under all (completed_sorted e c.under own.contract.sorts inhabited c.store c.sorted) typed required
+      let g = usable place own here under all
+      (completed_sorted e c.under own.contract.sorts inhabited c.store c.sorted, called_thread e v c.under st.path ts c.store under knows stands.path (λ x z is. c.grows x z (first.grows x z is)) (λ x z is. c.stays x z (first.grows x z is)) means) typed required
       (inr (refl, inr (mass, (j, l, subst (λ f. HasFall e own.contract f under all j) (sym falls) at)))) in
       after_call own outs (λ h. h) others w names n m (λ s su among v2 part2 q2 around2 stands2. body_gives (go s su among) here w n m sized usable v2 names part2 q2 around2 stands2) c.under under c.store c.state all c.left k.now q sums k.around (c.holds).0 means (c.holds).1 c.stands g

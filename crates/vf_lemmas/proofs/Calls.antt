@@ -11,7 +11,7 @@ use Rattle.vf_lemmas.specs.Proves.{Proves, may_drop, may_see, may_split}
 
 pub calling_keeps : CallingKeeps
 calling_keeps e prog lemma st outs lemma_holds calls locals names v q stands typed =
-    let o = lemma_called e prog lemma calls.arguments outs st lemma_holds calls.inhabited calls.of_sorts calls.consumed locals names v q stands typed in
+    let o = lemma_called e prog lemma calls.arguments outs st lemma_holds calls.inhabited calls.of_sorts calls.thread calls.consumed locals names v q stands typed in
     record { leaked = o.leaked; left = o.left; sums = o.sums; unleaked = o.unleaked; stands = record { under = o.under; store = o.store; state = o.state; among = o.holds; stands = o.stands } }
 
 -- a value in a row is at most as great as all together

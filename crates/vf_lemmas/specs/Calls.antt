@@ -9,7 +9,7 @@ use Rattle.vf_meaning.specs.Assertions.{Assertion, BodyOf, Environment}
 use Rattle.vf_meaning.specs.Environments.{MayLeak}
 use Rattle.vf_meaning.specs.Parts.{Part, nothing, IsSum}
 use Rattle.vf_rules.specs.Terms.{Term, Store}
-use Rattle.vf_rules.specs.States.{SymbolicState, StandsFor, with_chunks}
+use Rattle.vf_rules.specs.States.{SymbolicState, KnowsThread, StandsFor, with_chunks}
 use Rattle.vf_rules.specs.Types.{IsTypedPart}
 use Rattle.vf_rules.specs.Produce.{Produce}
 use Rattle.vf_rules.specs.Consume.{Consume}
@@ -28,6 +28,7 @@ pub record Calls (e : Environment) (p : ProgramTree) (lemma : LemmaTree) (st : S
   pub inhabited : AreInhabited e lemma.contract.sorts
   pub number : length arguments ≡ lemma.contract.parameters
   pub of_sorts : AreSorted e st.path lemma.contract.sorts arguments
+  pub thread : KnowsThread e st.path
   pub consumed : Consume e p lemma.contract.sorts all_of_it lemma.contract.requires_this (call_store arguments) st (λ s1 st1.
       AreFixed lemma.contract s1 × Produce e p lemma.contract.sorts all_of_it lemma.contract.ensures_this s1 st1 (IsAmong outs))
 

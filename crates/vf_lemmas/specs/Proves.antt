@@ -7,8 +7,8 @@ use Rattle.vf_meaning.specs.Assertions.{Names, Assertion, ContractTree, BodyOf, 
 use Rattle.vf_meaning.specs.Environments.{MayLeak}
 use Rattle.vf_rules.specs.Terms.{Term}
 use Rattle.vf_rules.specs.Terms as terms
-use Rattle.vf_rules.specs.States.{Fact, Holds, CellOf, SymbolicChunk, SymbolicState, value_in, Meets, Entails, Shows, Infeasible, assuming}
-use Rattle.vf_rules.specs.Produce.{ProducePatterns, Produce}
+use Rattle.vf_rules.specs.States.{Fact, Holds, CellOf, SymbolicChunk, SymbolicState, value_in, Meets, Entails, facts_of_thread, KnowsThread, Shows, Infeasible, assuming}
+use Rattle.vf_rules.specs.Produce.{NoArgumentSort, ProducePatterns, Produce}
 use Rattle.vf_rules.specs.Take.{same, Removes, Changes}
 use Rattle.vf_rules.specs.Consume.{Consume}
 use Rattle.vf_rules.specs.Laws.{Outcome, IsAmong}
@@ -53,12 +53,12 @@ pub data Proves (e : Environment) (p : ProgramTree) (lemmas : List LemmaTree) (o
   may_leak : {asides : List Aside} {st : SymbolicState} (a : Assertion) (sorts : List Sort) (store : terms.Store) (outs : List Outcome) → MayLeak e (BodyOf own.identity) → AreNamesSorted e st.path sorts store → Consume e p sorts all_of_it a store st (IsAmong outs)
       → ((s : terms.Store) (su : SymbolicState) → IsAmong outs s su → Proves e p lemmas own place asides su) → Proves e p lemmas own place asides st
   may_call : {asides : List Aside} {st : SymbolicState} (number : ℕ) (callee : LemmaTree) (ts : List Term) (outs : List Outcome) → slice_get lemmas number ≡ Some callee → (MayLeak e (BodyOf callee.identity) → MayLeak e (BodyOf own.identity))
-      → AreInhabited e callee.contract.sorts → length ts ≡ callee.contract.parameters → AreSorted e st.path callee.contract.sorts ts
+      → AreInhabited e callee.contract.sorts → length ts ≡ callee.contract.parameters → AreSorted e st.path callee.contract.sorts ts → KnowsThread e st.path
       → Consume e p callee.contract.sorts all_of_it callee.contract.requires_this (call_store ts) st (λ s1 st1.
       MayCall e own place st ts st1 number × AreFixed callee.contract s1 × Produce e p callee.contract.sorts all_of_it callee.contract.ensures_this s1 st1 (IsAmong outs))
       → ((s : terms.Store) (su : SymbolicState) → IsAmong outs s su → Proves e p lemmas own place asides su) → Proves e p lemmas own place asides st
   may_call_held : {asides : List Aside} {st : SymbolicState} (lemma : LemmaTree) (ts : List Term) (outs : List Outcome) → LemmaHolds e p lemma → (MayLeak e (BodyOf lemma.identity) → MayLeak e (BodyOf own.identity))
-      → AreInhabited e lemma.contract.sorts → length ts ≡ lemma.contract.parameters → AreSorted e st.path lemma.contract.sorts ts
+      → AreInhabited e lemma.contract.sorts → length ts ≡ lemma.contract.parameters → AreSorted e st.path lemma.contract.sorts ts → KnowsThread e st.path
       → Consume e p lemma.contract.sorts all_of_it lemma.contract.requires_this (call_store ts) st (λ s1 st1. AreFixed lemma.contract s1 × Produce e p lemma.contract.sorts all_of_it lemma.contract.ensures_this s1 st1 (IsAmong outs))
       → ((s : terms.Store) (su : SymbolicState) → IsAmong outs s su → Proves e p lemmas own place asides su) → Proves e p lemmas own place asides st
   may_put_back : {asides others : List Aside} {st : SymbolicState} (a : Aside) (outs : List Outcome) → TakesAside a asides others → Produce e p own.contract.sorts all_of_it a.assertion st.names st (IsAmong outs)
@@ -69,20 +69,20 @@ pub data Proves (e : Environment) (p : ProgramTree) (lemmas : List LemmaTree) (o
       → AreNew own.contract st.names new → AreFreeOf new others → OpensInto e st.path st.names a.assertion sorts new inner rest → Produce e p sorts all_of_it rest st.names st (IsAmong outs)
       → ((s : terms.Store) (su : SymbolicState) → IsAmong outs s su → Proves e p lemmas own place (all_inside inner ++ others) (record su { names = s })) → Proves e p lemmas own place asides st
   may_call_inside : {asides others : List Aside} {st : SymbolicState} (a : Aside) (ts : List Term) (store : terms.Store) (outs : List Outcome) → TakesAside a asides others → a.inside ≡ true → own.falls ≡ OnDepth
-      → AreInhabited e own.contract.sorts → length ts ≡ own.contract.parameters → IsFirst e st.path st.names a.assertion (first_of own.contract.requires_this) own.contract.sorts ts store
+      → AreInhabited e own.contract.sorts → length ts ≡ own.contract.parameters → KnowsThread e st.path → IsFirst e st.path st.names a.assertion (first_of own.contract.requires_this) own.contract.sorts ts store
       → Consume e p own.contract.sorts all_of_it (rest_of own.contract.requires_this) store st (λ s1 st1. AreFixed own.contract s1 × Produce e p own.contract.sorts all_of_it own.contract.ensures_this s1 st1 (IsAmong outs))
       → ((s : terms.Store) (su : SymbolicState) → IsAmong outs s su → Proves e p lemmas own place others su) → Proves e p lemmas own place asides st
 
--- the state in which a lemma's body begins: the parameters have new symbols of their sorts, and nothing else is there
+-- the state in which a lemma's body begins: the parameters have new symbols of their sorts, the thread is named by a number, and nothing else is there
 abbrev pub lemma_beginning : ContractTree → SymbolicState
-lemma_beginning k = record { locals = []; names = call_store (parameter_symbols k.parameters); chunks = []; path = facts_of_sorts k.sorts (parameter_symbols k.parameters) }
+lemma_beginning k = record { locals = []; names = call_store (parameter_symbols k.parameters); chunks = []; path = facts_of_sorts k.sorts (parameter_symbols k.parameters) ++ facts_of_thread }
 
 -- a lemma is accepted at its place: its precondition is produced from nothing, or its first part is set aside and the rest is produced, and its body is accepted from there
 pub data IsAcceptedLemma (e : Environment) (p : ProgramTree) (lemmas : List LemmaTree) (place : ℕ) (lemma : LemmaTree) : Type 0 where
   with_all : (outs : List Outcome) → Produce e p lemma.contract.sorts all_of_it lemma.contract.requires_this (call_store (parameter_symbols lemma.contract.parameters)) (lemma_beginning lemma.contract) (IsAmong outs)
       → ((s : terms.Store) (st : SymbolicState) → IsAmong outs s st → Proves e p lemmas lemma place [] (record st { names = s })) → IsAcceptedLemma e p lemmas place lemma
   with_first_aside : (names : List Name) (outs : List Outcome) → lemma.falls ≡ OnDepth
-      → ProducePatterns e p lemma.contract.sorts all_of_it 0 (map (λ x. Names x) names) (call_store (parameter_symbols lemma.contract.parameters)) (lemma_beginning lemma.contract) [] (λ ts s st.
+      → ProducePatterns e p lemma.contract.sorts all_of_it NoArgumentSort 0 (map (λ x. Names x) names) (call_store (parameter_symbols lemma.contract.parameters)) (lemma_beginning lemma.contract) [] (λ ts s st.
       Produce e p lemma.contract.sorts all_of_it (rest_of lemma.contract.requires_this) s st (IsAmong outs))
       → ((s : terms.Store) (st : SymbolicState) → IsAmong outs s st → Proves e p lemmas lemma place (record { inside = false; assertion = first_of lemma.contract.requires_this } ∷ []) (record st { names = s }))
       → IsAcceptedLemma e p lemmas place lemma

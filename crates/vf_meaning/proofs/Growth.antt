@@ -2,6 +2,7 @@
 use Rattle.std.proofs.Common.{◌≡◌, ℕ, zero, suc, cond, List, [], ◌∷◌, map, Option, Some, None, refl, sym, ap, ap₂, subst, ◌∙◌, inl, inr, arith}
 use Rattle.std.specs.Prelude.{Contains, IsTrue}
 use Rattle.std.specs.Bool.{MatchBool}
+use Rattle.vf_tree.specs.Core.{Identity}
 use Rattle.vf_model.specs.Values.{Dyadic, Value, Values, none, more, same_identity}
 use Rattle.vf_model.specs.Values as values
 use Rattle.vf_meaning.specs.Fractions.{product}
@@ -11,7 +12,7 @@ use Rattle.vf_meaning.specs.GhostValues.{Interpretation, value_of, interpreted}
 use Rattle.vf_meaning.specs.Assertions.{ShareTree, Times, Taken, PatternTree, Is, Names, Wild, Head, BlockOf, Named, Family, Applied, Assertion, Pure, Empty, Both, Choose, Switch, Cell, Chunk, Branches, no_branches, branch, BodyName, BodyTree, PredicateTree, Environment}
 use Rattle.vf_meaning.specs.Names.{UsesShare, UsesPattern, UsesPatterns, UsesHead, UsesIn, UsesBranch}
 use Rattle.vf_meaning.specs.Environments.{Extends}
-use Rattle.vf_meaning.specs.Sorts.{HasSort, HaveSorts, HaveFirst, ArgumentsAre, IsDatatypeOf, ParametersAre}
+use Rattle.vf_meaning.specs.Sorts.{HasSort, HaveSorts, HaveFirst, ArgumentsAre, IsDatatypeOf, AreDeclaredWith, ParametersAre}
 use Rattle.vf_meaning.specs.Parts.{Part}
 use Rattle.vf_meaning.specs.Chunks.{Wanted, Just, wanted, product_if, times_names, fraction_of, IsFieldCell}
 use Rattle.vf_meaning.specs.Satisfaction.{SatisfiesFamily, SatisfiesValue, SatisfiesHead, SatisfiesBy, SatisfiesBranch, SatisfiesIf, MeansAt}
@@ -21,17 +22,21 @@ use Rattle.vf_meaning.proofs.Satisfaction.{match_map, satisfies_map}
 
 -- ---- more declarations
 module _ (e f : Environment) (grows : Extends e f) where
-  arguments_grow : (o r : Option ConstructorTree) → ((k : ConstructorTree) → o ≡ Some k → r ≡ Some k) → (sorts : List Sort) → ArgumentsAre o sorts → ArgumentsAre r sorts
-  arguments_grow None r g sorts h = absurd h
-  arguments_grow (Some k) r g sorts h = subst (λ x. ArgumentsAre x sorts) (sym (g k refl)) h
+  arguments_grow : (o r : Option ConstructorTree) → ((k : ConstructorTree) → o ≡ Some k → r ≡ Some k) → (s : Sort) (sorts : List Sort) → ArgumentsAre o s sorts → ArgumentsAre r s sorts
+  arguments_grow None r g s sorts h = absurd h
+  arguments_grow (Some k) r g s sorts h = subst (λ x. ArgumentsAre x s sorts) (sym (g k refl)) h
 
   datatype_grows : (o r : Option ConstructorTree) → ((k : ConstructorTree) → o ≡ Some k → r ≡ Some k) → (s : Sort) → IsDatatypeOf o s → IsDatatypeOf r s
   datatype_grows None r g s h = absurd h
   datatype_grows (Some k) r g s h = subst (λ x. IsDatatypeOf x s) (sym (g k refl)) h
 
-  parameters_grow : (o r : Option PredicateTree) → ((k : PredicateTree) → o ≡ Some k → r ≡ Some k) → (sorts : List Sort) → ParametersAre o sorts → ParametersAre r sorts
-  parameters_grow None r g sorts h = absurd h
-  parameters_grow (Some k) r g sorts h = subst (λ x. ParametersAre x sorts) (sym (g k refl)) h
+  declared_grow : (o r : Option PredicateTree) → ((k : PredicateTree) → o ≡ Some k → r ≡ Some k) → (sorts : List Sort) → AreDeclaredWith o sorts → AreDeclaredWith r sorts
+  declared_grow None r g sorts h = absurd h
+  declared_grow (Some k) r g sorts h = subst (λ x. AreDeclaredWith x sorts) (sym (g k refl)) h
+
+  parameters_grow : (p : Identity) (sorts : List Sort) → ParametersAre p (e.predicates p) sorts → ParametersAre p (f.predicates p) sorts
+  parameters_grow p sorts (inl nameless) = inl nameless
+  parameters_grow p sorts (inr h) = inr (declared_grow (e.predicates p) (f.predicates p) (grows.predicates p) sorts h)
 
   mutual
     sort_grows : (v : Value) (s : Sort) → HasSort e v s → HasSort f v s
@@ -42,9 +47,9 @@ module _ (e f : Environment) (grows : Extends e f) where
     sort_grows (values.Function g) s h = h
     sort_grows (values.Constructed c vs) s h = (
       datatype_grows (e.constructors c) (f.constructors c) (grows.constructors c) s h.0,
-      ((h.1).0, arguments_grow (e.constructors c) (f.constructors c) (grows.constructors c) (h.1).0 (h.1).1, sorts_grow vs (h.1).0 (h.1).2),
+      ((h.1).0, arguments_grow (e.constructors c) (f.constructors c) (grows.constructors c) s (h.1).0 (h.1).1, sorts_grow vs (h.1).0 (h.1).2),
     )
-    sort_grows (values.Predicate p vs) s h = (h.0, parameters_grow (e.predicates p) (f.predicates p) (grows.predicates p) h.0 h.1, h.2, first_grow vs h.0 h.3)
+    sort_grows (values.Predicate p vs) s h = (h.0, parameters_grow p h.0 h.1, h.2, first_grow vs h.0 h.3)
     sort_grows (values.Fraction d) s h = h
 
     sorts_grow : (vs : Values) (sorts : List Sort) → HaveSorts e vs sorts → HaveSorts f vs sorts

@@ -1,27 +1,37 @@
 -- Which values a sort has, and valuations that give each name a value of its sort.
-use Rattle.std.specs.Prelude.{◌≡◌, ℕ, List, [], ◌∷◌, ◌++◌, drop, slice_get, Option, Some, None, ◌⊎◌}
+use Rattle.std.specs.Prelude.{◌≡◌, ℕ, List, [], ◌∷◌, ◌++◌, map, drop, slice_get, Option, Some, None, ◌⊎◌}
+use Rattle.vf_tree.specs.Core.{Identity}
 use Rattle.vf_model.specs.Values.{Value, Values, none, more}
 use Rattle.vf_model.specs.Values as values
 use Rattle.vf_meaning.specs.Fractions.{IsPositive}
-use Rattle.vf_meaning.specs.Ghost.{Sort, Integers, Truths, Pointers, Fractions, Anything, Datatype, Predicates, listed, Numbered, ConstructorTree}
+use Rattle.vf_meaning.specs.Ghost.{Sort, Integers, Truths, Pointers, Fractions, Anything, Datatype, Predicates, Sorts, listed, count_sorts, instance_of, Numbered, ConstructorTree}
 use Rattle.vf_meaning.specs.Valuations.{Valuation, count}
 use Rattle.vf_meaning.specs.Assertions.{PredicateTree, Environment}
 
--- the sorts of a constructor's arguments are known
-abbrev pub ArgumentsAre : Option ConstructorTree → List Sort → Type 0
-ArgumentsAre None sorts = ⊥
-ArgumentsAre (Some c) sorts = c.arguments ≡ sorts
-
--- a sort has the terms of a constructor: it is the constructor's datatype, or any sort
+-- a sort has the terms of a constructor: it is the constructor's datatype, at as many sorts as that has type parameters, or any sort
 abbrev pub IsDatatypeOf : Option ConstructorTree → Sort → Type 0
-IsDatatypeOf (Some c) (Datatype d) = c.datatype ≡ d
+IsDatatypeOf (Some c) (Datatype d ts) = (c.datatype ≡ d) × (count_sorts ts ≡ c.parameters)
 IsDatatypeOf (Some c) Anything = Unit {0}
 IsDatatypeOf _ _ = ⊥
 
--- the sorts of all arguments of a predicate, those of a constructor first, are known
-abbrev pub ParametersAre : Option PredicateTree → List Sort → Type 0
-ParametersAre None sorts = ⊥
-ParametersAre (Some p) sorts = p.first ++ p.others ≡ sorts
+-- the arguments of a constructor have the sorts that are given, where its term is of a sort: the declared ones with the datatype's sorts for its type parameters, and with some sorts for them where the term is of any sort
+abbrev pub ArgumentsAre : Option ConstructorTree → Sort → List Sort → Type 0
+ArgumentsAre (Some c) (Datatype d ts) sorts = map (instance_of ts) c.arguments ≡ sorts
+ArgumentsAre (Some c) Anything sorts = (ts : Sorts) × (count_sorts ts ≡ c.parameters) × (map (instance_of ts) c.arguments ≡ sorts)
+ArgumentsAre _ _ sorts = ⊥
+
+-- the identity that no declaration has
+abbrev pub undeclared : Identity
+undeclared = []
+
+-- the sorts of all arguments that a predicate is declared with, those of a constructor first
+abbrev pub AreDeclaredWith : Option PredicateTree → List Sort → Type 0
+AreDeclaredWith None sorts = ⊥
+AreDeclaredWith (Some p) sorts = p.first ++ p.others ≡ sorts
+
+-- The arguments of a predicate have the sorts that are given: those that it is declared with, and any where it is the one without a declaration, which nothing satisfies, so that each sort of predicates has a value
+abbrev pub ParametersAre : Identity → Option PredicateTree → List Sort → Type 0
+ParametersAre p declaration sorts = (p ≡ undeclared) ⊎ AreDeclaredWith declaration sorts
 
 -- a sort has the predicate values with n first arguments: it is that of predicates over the other arguments, or any sort
 abbrev pub IsPredicateSort : List Sort → ℕ → Sort → Type 0
@@ -41,8 +51,8 @@ abbrev mutual
   HasSort e values.Null s = IsOrAny Pointers s
   HasSort e (values.Pointer b o) s = IsOrAny Pointers s
   HasSort e (values.Function g) s = IsOrAny Pointers s
-  HasSort e (values.Constructed c vs) s = IsDatatypeOf (e.constructors c) s × ((sorts : List Sort) × ArgumentsAre (e.constructors c) sorts × HaveSorts e vs sorts)
-  HasSort e (values.Predicate p vs) s = (sorts : List Sort) × ParametersAre (e.predicates p) sorts × IsPredicateSort sorts (count vs) s × HaveFirst e vs sorts
+  HasSort e (values.Constructed c vs) s = IsDatatypeOf (e.constructors c) s × ((sorts : List Sort) × ArgumentsAre (e.constructors c) s sorts × HaveSorts e vs sorts)
+  HasSort e (values.Predicate p vs) s = (sorts : List Sort) × ParametersAre p (e.predicates p) sorts × IsPredicateSort sorts (count vs) s × HaveFirst e vs sorts
   HasSort e (values.Fraction d) s = IsOrAny Fractions s × IsPositive d
 
   -- values are of sorts, one by one

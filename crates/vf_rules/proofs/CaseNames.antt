@@ -1,5 +1,5 @@
 -- The names of a case get new symbols, which have the values of the constructor's arguments.
-use Rattle.std.proofs.Common.{◌≡◌, ℕ, ◌-◌, cond, List, [], ◌∷◌, ◌++◌, map, slice_get, Option, Some, None, refl, sym, ap, ap₂, subst, ◌∙◌, inl, inr}
+use Rattle.std.proofs.Common.{◌≡◌, ℕ, suc, ◌-◌, cond, List, [], ◌∷◌, ◌++◌, map, slice_get, Option, Some, None, refl, sym, ap, ap₂, subst, ◌∙◌, inl, inr}
 use Rattle.std.proofs.lemmas.List.{append_assoc, append-nil}
 use Rattle.std.proofs.lemmas.Bool.{cases_Bool}
 use Rattle.vf_tree.specs.Core.{ProgramTree}
@@ -64,9 +64,9 @@ bound_means e v s w x t u is value m y z h =
     ]
 
 module _ (e : Environment) (prog : ProgramTree) (sorts : List Sort) (scale : Term) (K : List (Option Term) → Store → SymbolicState → Type 0) (locals : List (Option Value)) (names : Valuation) (p : Part) where
-  pub names_read : (n : ℕ) (xs : List Name) (us : Values) (s : Store) (st : SymbolicState) (before : List (Option Term)) → ProducePatterns e prog sorts scale n (map (λ x. Names x) xs) s st before K
+  pub names_read : (Has : ℕ → Sort → Type 0) (n : ℕ) (xs : List Name) (us : Values) (s : Store) (st : SymbolicState) (before : List (Option Term)) → ProducePatterns e prog sorts scale Has n (map (λ x. Names x) xs) s st before K
       → (v : Valuation) → StandsFor e v st locals names p → StoreSorted e v sorts s → NamesHaveSorts e sorts xs us → NamesRead e sorts K v scale s before xs us locals names p
-  names_read n [] values.none s st before k v stands so h = record {
+  names_read Has n [] values.none s st before k v stands so h = record {
     under = v;
     new = [];
     store = s;
@@ -81,15 +81,15 @@ module _ (e : Environment) (prog : ProgramTree) (sorts : List Sort) (scale : Ter
     new_are = refl;
     rebound = λ later after w g same m. m;
   }
-  names_read n [] (values.more u us) s st before k v stands so h = absurd h
-  names_read n (x ∷ xs) values.none s st before k v stands so h = absurd h
-  names_read n (x ∷ xs) (values.more u us) s st before k v stands so h =
+  names_read Has n [] (values.more u us) s st before k v stands so h = absurd h
+  names_read Has n (x ∷ xs) values.none s st before k v stands so h = absurd h
+  names_read Has n (x ∷ xs) (values.more u us) s st before k v stands so h =
       let y = k.0 in
       let v1 = bound v (Numbered y) u in
       let own : value_in e v1 (symbol y) ≡ u = own_symbol v y u in
       let met = name_met e v1 sorts x (symbol y) u own h.0 in
       let so1 : StoreSorted e v1 sorts s = λ j b t is known. subst (λ z. HasSort e z b) (sym (fresh_value e v y u t ((k.1).store (Numbered j) t is))) (so j b t is known) in
-      let r = names_read (n - 1) xs us (stored s x (symbol y)) (assuming_all st (facts_of_name sorts x (symbol y))) (before ++ Some (symbol y) ∷ []) k.3 v1
+      let r = names_read (λ j. Has (suc j)) (n - 1) xs us (stored s x (symbol y)) (assuming_all st (facts_of_name sorts x (symbol y))) (before ++ Some (symbol y) ∷ []) k.3 v1
       (assuming_all_stands e v1 st locals names p _ met (stands_fresh e v y u st locals names p (k.1).state stands))
       (stored_sorted e v1 sorts s x (symbol y) so1 met k.2) h.1 in
       let symbol_is : value_in e r.under (symbol y) ≡ u = r.kept (symbol y) (among_last before (symbol y)) ∙ own in

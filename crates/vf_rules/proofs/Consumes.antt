@@ -20,7 +20,7 @@ use Rattle.vf_rules.specs.Laws.{Grows, StoreSorted}
 use Rattle.vf_rules.specs.Terms.{Term, Store, term_of, stored, times_terms, head_of, IsBound, IsBoundHead}
 use Rattle.vf_rules.specs.Terms as terms
 use Rattle.vf_rules.specs.States.{Fact, Holds, ChunkHead, CellOf, Of, SymbolicChunk, SymbolicState, meaning, value_in, IsMet, Meets, wanted_in, HeadMeans, ChunksMean, StoreMeans, StandsFor, assuming, with_chunks}
-use Rattle.vf_rules.specs.Produce.{known, NamesHaveSorts, IsCovered}
+use Rattle.vf_rules.specs.Produce.{known, NamesHaveSorts, IsCovered, NoArgumentSort}
 use Rattle.vf_rules.specs.Consume.{HeadFits, ConsumeShare, Consume, ConsumeBranches}
 use Rattle.vf_rules.proofs.Terms.{bound_value, stored_own, stored_grows, grown_means}
 use Rattle.vf_rules.proofs.Stands.{assuming_stands}
@@ -339,7 +339,7 @@ module _ (e : Environment) (prog : ProgramTree) (sorts : List Sort) (scale : Ter
         elim (cases_Bool (same_identity f d)) [
           | inl yes1 ↦
               let fitting = subst (λ z. MatchBool z (NamesHaveSorts e sorts xs us) (IsCovered e sorts rest (values.Constructed d us))) yes1 covered in
-              let one = names_read e prog sorts scale _ locals names p 0 xs us s st (Some t ∷ []) k.0 v stands so fitting in
+              let one = names_read e prog sorts scale _ locals names p NoArgumentSort 0 xs us s st (Some t ∷ []) k.0 v stands so fitting in
               let met = constructed_met e prog sorts scale c 0 locals names one.under t f d one.new us yes1 (one.kept t (inl refl) ∙ is) one.new_are in
               let fact = Holds (Compare Equal t (Construct f (terms.in_row (known one.new)))) in
               let two = consumed a one.store (assuming one.state fact) K

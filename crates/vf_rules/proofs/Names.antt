@@ -1,5 +1,5 @@
 -- The names of a branch: bound apart from all others, they have the values of a constructor's arguments.
-use Rattle.std.proofs.Common.{◌≡◌, ◌≢◌, ℕ, ◌-◌, cond, List, [], ◌∷◌, map, slice_get, Option, Some, None, refl, sym, ap, ap₂, subst, ◌∙◌, inl, inr}
+use Rattle.std.proofs.Common.{◌≡◌, ◌≢◌, ℕ, suc, ◌-◌, cond, List, [], ◌∷◌, map, slice_get, Option, Some, None, refl, sym, ap, ap₂, subst, ◌∙◌, inl, inr}
 use Rattle.std.proofs.lemmas.Bool.{cases_Bool}
 use Rattle.vf_tree.specs.Core.{ProgramTree}
 use Rattle.vf_model.specs.Values.{Value, Values}
@@ -32,17 +32,17 @@ AreDistinct [] = Unit {0}
 AreDistinct (x ∷ xs) = IsNone x xs × AreDistinct xs
 
 module _ (e : Environment) (prog : ProgramTree) (sorts : List Sort) (scale : Term) (K : List (Option Term) → Store → SymbolicState → Type 0) where
-  pub names_unbound : (n : ℕ) (xs : List Name) (s : Store) (st : SymbolicState) (ts : List (Option Term)) → ProducePatterns e prog sorts scale n (map (λ x. Names x) xs) s st ts K
+  pub names_unbound : (Has : ℕ → Sort → Type 0) (n : ℕ) (xs : List Name) (s : Store) (st : SymbolicState) (ts : List (Option Term)) → ProducePatterns e prog sorts scale Has n (map (λ x. Names x) xs) s st ts K
       → (x : Name) (t : Term) → s x ≡ Some t → IsNone x xs
-  names_unbound n [] s st ts k x t h = tt
-  names_unbound n (y ∷ ys) s st ts k x t h =
+  names_unbound Has n [] s st ts k x t h = tt
+  names_unbound Has n (y ∷ ys) s st ts k x t h =
       let differs : x ≢ y = λ same. none_some (sym k.2 ∙ ap s (sym same) ∙ h) in
-      (differs, names_unbound (n - 1) ys (stored s y (symbol k.0)) _ _ k.3 x t (stored_other s y x (symbol k.0) differs ∙ h))
+      (differs, names_unbound (λ j. Has (suc j)) (n - 1) ys (stored s y (symbol k.0)) _ _ k.3 x t (stored_other s y x (symbol k.0) differs ∙ h))
 
-  pub names_distinct : (n : ℕ) (xs : List Name) (s : Store) (st : SymbolicState) (ts : List (Option Term)) → ProducePatterns e prog sorts scale n (map (λ x. Names x) xs) s st ts K → AreDistinct xs
-  names_distinct n [] s st ts k = tt
-  names_distinct n (y ∷ ys) s st ts k =
-      (names_unbound (n - 1) ys (stored s y (symbol k.0)) _ _ k.3 y (symbol k.0) (stored_own s y (symbol k.0)), names_distinct (n - 1) ys (stored s y (symbol k.0)) _ _ k.3)
+  pub names_distinct : (Has : ℕ → Sort → Type 0) (n : ℕ) (xs : List Name) (s : Store) (st : SymbolicState) (ts : List (Option Term)) → ProducePatterns e prog sorts scale Has n (map (λ x. Names x) xs) s st ts K → AreDistinct xs
+  names_distinct Has n [] s st ts k = tt
+  names_distinct Has n (y ∷ ys) s st ts k =
+      (names_unbound (λ j. Has (suc j)) (n - 1) ys (stored s y (symbol k.0)) _ _ k.3 y (symbol k.0) (stored_own s y (symbol k.0)), names_distinct (λ j. Has (suc j)) (n - 1) ys (stored s y (symbol k.0)) _ _ k.3)
 
 -- ---- the valuation with the names' values
 bound_own : (w : Valuation) (x : Name) (u : Value) → bound w x u x ≡ u

@@ -18,10 +18,10 @@ use Rattle.vf_rules.specs.Laws.{Grows}
 use Rattle.vf_rules.specs.Terms.{Term, Store, term_of, stored, times_terms, AreBound}
 use Rattle.vf_rules.specs.States.{OfSort, SymbolicState, meaning, value_in, Meets, wanted_in, StoreMeans, StandsFor, assuming_all}
 use Rattle.vf_rules.specs.Fresh.{symbol}
-use Rattle.vf_rules.specs.Produce.{facts_of_sort, facts_of_name, ProducePatterns, ProduceShare}
+use Rattle.vf_rules.specs.Produce.{facts_of_sort, facts_of_name, IsKnownSort, ProducePatterns, ProduceShare}
 use Rattle.vf_rules.proofs.Terms.{bound_value, bound_named, own_symbol, fresh_value, fresh_store, stored_means, stored_grows, fraction_is}
 use Rattle.vf_rules.proofs.Stands.{stands_fresh, assuming_all_stands}
-use Rattle.vf_rules.proofs.Arguments.{first, rest, refined, Among, among_more, among_last, among_uses}
+use Rattle.vf_rules.proofs.Arguments.{first, rest, refined, AreOfArguments, Among, among_more, among_last, among_uses}
 
 -- ---- what is known of a name's term
 sort_met : (e : Environment) (v : Valuation) (o : Option Sort) (t : Term) → ((s : Sort) → o ≡ Some s → HasSort e (value_in e v t) s) → Meets e v (facts_of_sort o t)
@@ -87,10 +87,15 @@ module _ (e : Environment) (prog : ProgramTree) (sorts : List Sort) (scale : Ter
     new_are = ap (λ b. chunks.Anything ∷ b) r.new_are;
   }
 
-  pub patterns_read : (n : ℕ) (ps : List PatternTree) (s : Store) (st : SymbolicState) (before : List (Option Term)) → ProducePatterns e prog sorts scale n ps s st before K
-      → (v : Valuation) (us : List Value) → StandsFor e v st locals names p → StoreMeans e v s w
+  -- the sort that is taken for an argument's is met
+  taken_met : (v : Valuation) (Has : Sort → Type 0) (o : Option Sort) (t : Term) → IsKnownSort Has o → ((s : Sort) → Has s → HasSort e (value_in e v t) s) → Meets e v (facts_of_sort o t)
+  taken_met v Has None t known h = tt
+  taken_met v Has (Some s) t known h = (h s known, tt)
+
+  pub patterns_read : (Has : ℕ → Sort → Type 0) (n : ℕ) (ps : List PatternTree) (s : Store) (st : SymbolicState) (before : List (Option Term)) → ProducePatterns e prog sorts scale Has n ps s st before K
+      → (v : Valuation) (us : List Value) → AreOfArguments e Has us → StandsFor e v st locals names p → StoreMeans e v s w
       → Read e K v scale s before (refined n (map (wanted (meaning e) w) ps) us) locals names w p
-  patterns_read n [] s st before k v us stands means = record {
+  patterns_read Has n [] s st before k v us has stands means = record {
     under = v;
     new = [];
     store = s;
@@ -103,32 +108,34 @@ module _ (e : Environment) (prog : ProgramTree) (sorts : List Sort) (scale : Ter
     before_are = λ t among. refl;
     new_are = refl;
   }
-  patterns_read n (Is x ∷ ps) s st before k v us stands means =
+  patterns_read Has n (Is x ∷ ps) s st before k v us has stands means =
       one_more v v s s before (term_of s x) (value_of (meaning e) w x) _
-      (patterns_read (n - 1) ps s st (before ++ Some (term_of s x) ∷ []) k.1 v (rest us) stands means)
+      (patterns_read (λ j. Has (suc j)) (n - 1) ps s st (before ++ Some (term_of s x) ∷ []) k.1 v (rest us) (λ j so h. has (suc j) so h) stands means)
       (λ y t h. h) refl (λ z among. refl) (bound_value e v s w x k.0 means)
-  patterns_read n (Names x ∷ ps) s st before k v us stands means =
+  patterns_read Has n (Names x ∷ ps) s st before k v us has stands means =
       let y = k.0 in
       let v1 = bound v (Numbered y) (w x) in
       let own : value_in e v1 (symbol y) ≡ w x = own_symbol v y (w x) in
       one_more v v1 s (stored s x (symbol y)) before (symbol y) (w x) _
-      (patterns_read (n - 1) ps (stored s x (symbol y)) (assuming_all st (facts_of_name sorts x (symbol y))) (before ++ Some (symbol y) ∷ []) k.3 v1 (rest us)
+      (patterns_read (λ j. Has (suc j)) (n - 1) ps (stored s x (symbol y)) (assuming_all st (facts_of_name sorts x (symbol y))) (before ++ Some (symbol y) ∷ []) k.3 v1 (rest us) (λ j so h. has (suc j) so h)
       (assuming_all_stands e v1 st locals names p _ (name_met e v1 sorts w x (symbol y) of_sorts own) (stands_fresh e v y (w x) st locals names p (k.1).state stands))
       (stored_means e v1 s w x (symbol y) (fresh_store e v y (w x) s w (k.1).store means) own))
       (stored_grows s x (symbol y) k.2)
       (fresh_value e v y (w x) scale (k.1).scale_free)
       (λ z among. fresh_value e v y (w x) z (λ used. (k.1).arguments_free (among_uses before z (Numbered y) among used)))
       own
-  patterns_read zero (Wild ∷ ps) s st before k v us stands means =
-      one_unknown v s before _ (patterns_read zero ps s st (before ++ None ∷ []) k v (rest us) stands means)
-  patterns_read (suc n) (Wild ∷ ps) s st before k v us stands means =
+  patterns_read Has zero (Wild ∷ ps) s st before k v us has stands means =
+      one_unknown v s before _ (patterns_read (λ j. Has (suc j)) zero ps s st (before ++ None ∷ []) k v (rest us) (λ j so h. has (suc j) so h) stands means)
+  patterns_read Has (suc n) (Wild ∷ ps) s st before k v us has stands means =
       let y = k.0 in
       let u = first us in
       let v1 = bound v (Numbered y) u in
       let own : value_in e v1 (symbol y) ≡ u = own_symbol v y u in
       subst (λ m. Read e K v scale s before (Just u ∷ refined m (map (wanted (meaning e) w) ps) (rest us)) locals names w p) (less n)
       (one_more v v1 s s before (symbol y) u _
-      (patterns_read n ps s st (before ++ Some (symbol y) ∷ []) k.2 v1 (rest us) (stands_fresh e v y u st locals names p (k.1).state stands) (fresh_store e v y u s w (k.1).store means))
+      (patterns_read (λ j. Has (suc j)) n ps s (assuming_all st (facts_of_sort k.2 (symbol y))) (before ++ Some (symbol y) ∷ []) k.4 v1 (rest us) (λ j so h. has (suc j) so h)
+      (assuming_all_stands e v1 st locals names p _ (taken_met v1 (Has 0) k.2 (symbol y) k.3 (λ so h. subst (λ z. HasSort e z so) (sym own) (has 0 so h))) (stands_fresh e v y u st locals names p (k.1).state stands))
+      (fresh_store e v y u s w (k.1).store means))
       (λ x t h. h)
       (fresh_value e v y u scale (k.1).scale_free)
       (λ z among. fresh_value e v y u z (λ used. (k.1).arguments_free (among_uses before z (Numbered y) among used)))

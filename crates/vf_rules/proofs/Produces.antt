@@ -28,7 +28,7 @@ use Rattle.vf_rules.specs.Terms.{Term, Store, term_of, head_of, IsBound, IsBound
 use Rattle.vf_rules.specs.Terms as terms
 use Rattle.vf_rules.specs.States.{Fact, Holds, OfSort, CellOf, Of, SymbolicChunk, SymbolicState, meaning, value_in, IsMet, Meets, wanted_in, ChunkMeans, StoreMeans, StandsFor, assuming, assuming_all, with_chunk}
 use Rattle.vf_rules.specs.Types.{IsPointer, is_bool, IsTruth, IsNumberIn, IsOfInteger, IsOfType, facts_of_integer, facts_of_type, type_of_field, IsTypedPart}
-use Rattle.vf_rules.specs.Produce.{known, NamesHaveSorts, IsCovered, Given, facts_of_cell, facts_of_chunk, Produce, ProduceBranches, valued_arguments}
+use Rattle.vf_rules.specs.Produce.{known, NamesHaveSorts, IsCovered, Given, facts_of_cell, facts_of_chunk, NoArgumentSort, HasArgumentSort, Produce, ProduceBranches, valued_arguments}
 use Rattle.vf_rules.proofs.Terms.{bound_value, grown_means}
 use Rattle.vf_rules.proofs.Stands.{meets_more, assuming_stands, assuming_all_stands, with_chunk_stands}
 use Rattle.vf_rules.proofs.Arguments.{refined_none, head_valued}
@@ -220,7 +220,7 @@ module _ (e : Environment) (prog : ProgramTree) (sorts : List Sort) (scale : Ter
   cell_produced share pointer f x s st K k v w q p r stands means of_sorts scaled above h typed sums =
       let one = share_read e prog sorts scale share s st _ k.1 v locals names w p c h.0 stands means scaled (h.1).is (h.1).positive in
       let fraction = product c h.0 in
-      let two = patterns_read e prog sorts scale _ locals names w p of_sorts 0 (x ∷ []) one.store one.state (Some one.share ∷ Some (term_of s pointer) ∷ []) one.holds one.under [] one.stands one.means in
+      let two = patterns_read e prog sorts scale _ locals names w p of_sorts NoArgumentSort 0 (x ∷ []) one.store one.state (Some one.share ∷ Some (term_of s pointer) ∷ []) one.holds one.under [] (λ j so never. absurd never) one.stands one.means in
       let argument = single_argument e two.under two.new _ (two.new_are ∙ refined_none _ []) in
       let share_is : value_in e two.under one.share ≡ values.Fraction fraction = two.before_are one.share (inl refl) ∙ one.share_is in
       let pointer_is : value_in e two.under (term_of s pointer) ≡ value_of (meaning e) w pointer =
@@ -247,12 +247,12 @@ module _ (e : Environment) (prog : ProgramTree) (sorts : List Sort) (scale : Ter
   -- a chunk
   chunk_produced : (share : ShareTree) (head : Head) (xs : List PatternTree) (s : Store) (st : SymbolicState) (K : Store → SymbolicState → Type 0)
       → Produce e prog sorts scale (Chunk share head xs) s st K → (v w : Valuation) (q p r : Part) → StandsFor e v st locals names p → StoreMeans e v s w → AreOfSorts e w sorts
-      → value_in e v scale ≡ values.Fraction c → IsPositive c → SatisfiesAt e n c (Chunk share head xs) w q → IsSum q p r → Produced e K v scale s locals names w r
-  chunk_produced share head xs s st K k v w q p r stands means of_sorts scaled above h sums =
+      → value_in e v scale ≡ values.Fraction c → IsPositive c → SatisfiesAt e n c (Chunk share head xs) w q → IsTypedPart e prog q → IsSum q p r → Produced e K v scale s locals names w r
+  chunk_produced share head xs s st K k v w q p r stands means of_sorts scaled above h typed sums =
       let one = share_read e prog sorts scale share s st _ k.1 v locals names w p c h.0 stands means scaled (h.1).is (h.1).positive in
       let fraction = product c h.0 in
-      let valued = head_valued (MeansAt e n) (meaning e) c (length xs) fraction head w (map (wanted (meaning e) w) xs) q h.2 in
-      let two = patterns_read e prog sorts scale _ locals names w p of_sorts (valued_arguments head (length xs)) xs one.store one.state (Some one.share ∷ []) one.holds one.under valued.0 one.stands one.means in
+      let valued = head_valued e prog n (meaning e) c (length xs) fraction head w (map (wanted (meaning e) w) xs) q ((stays_positive.1) c h.0 above (h.1).positive) typed h.2 in
+      let two = patterns_read e prog sorts scale _ locals names w p of_sorts (HasArgumentSort e head) (valued_arguments head (length xs)) xs one.store one.state (Some one.share ∷ []) one.holds one.under valued.0 valued.2 one.stands one.means in
       let share_is : value_in e two.under one.share ≡ values.Fraction fraction = two.before_are one.share (inl refl) ∙ one.share_is in
       let means_before = grown_means e two.under s two.store w (λ y t g. two.grows y t (one.grows y t g)) two.means in
       let owned = subst (λ us. SatisfiesHead (MeansAt e n) (meaning e) whole fraction (head_of s head) two.under us q) (sym two.new_are)
@@ -323,7 +323,7 @@ module _ (e : Environment) (prog : ProgramTree) (sorts : List Sort) (scale : Ter
     produced (Cell share pointer f x) s st K k v w q p r stands means of_sorts scaled above h typed sums =
         cell_produced share pointer f x s st K k v w q p r stands means of_sorts scaled above h typed sums
     produced (Chunk share head xs) s st K k v w q p r stands means of_sorts scaled above h typed sums =
-        chunk_produced share head xs s st K k v w q p r stands means of_sorts scaled above h sums
+        chunk_produced share head xs s st K k v w q p r stands means of_sorts scaled above h typed sums
 
     branch_produced : (bs : Branches) (t : Term) (s : Store) (st : SymbolicState) (K : Store → SymbolicState → Type 0) → ProduceBranches e prog sorts scale bs t s st K
         → (v w : Valuation) (q p r : Part) (u : Value) → value_in e v t ≡ u → StandsFor e v st locals names p → StoreMeans e v s w → AreOfSorts e w sorts → value_in e v scale ≡ values.Fraction c → IsPositive c
@@ -335,10 +335,10 @@ module _ (e : Environment) (prog : ProgramTree) (sorts : List Sort) (scale : Ter
               let fitting = subst (λ z. MatchBool z (NamesHaveSorts e sorts xs us) (IsCovered e sorts rest (values.Constructed d us))) yes1 covered in
               let body = subst (λ z. MatchBool z (SatisfiesAt e n c a (all_bound w xs us) q) (SatisfiesBranch (MeansAt e n) (meaning e) c rest (values.Constructed d us) w q)) yes1 h in
               let w' = all_bound w xs us in
-              let apart = names_unbound e prog sorts scale _ 0 xs s st (Some t ∷ []) k.0 in
+              let apart = names_unbound e prog sorts scale _ NoArgumentSort 0 xs s st (Some t ∷ []) k.0 in
               let sorted = names_sorted e sorts w xs us of_sorts fitting in
-              let one = patterns_read e prog sorts scale _ locals names w' p sorted 0 (map (λ x. Names x) xs) s st (Some t ∷ []) k.0 v [] stands (names_mean e v s w xs us apart means) in
-              let new_are = one.new_are ∙ refined_none _ [] ∙ asked_of_names e w' xs ∙ ap (map (λ z. Just z)) (names_values e sorts w xs us (names_distinct e prog sorts scale _ 0 xs s st (Some t ∷ []) k.0) fitting) in
+              let one = patterns_read e prog sorts scale _ locals names w' p sorted NoArgumentSort 0 (map (λ x. Names x) xs) s st (Some t ∷ []) k.0 v [] (λ j so never. absurd never) stands (names_mean e v s w xs us apart means) in
+              let new_are = one.new_are ∙ refined_none _ [] ∙ asked_of_names e w' xs ∙ ap (map (λ z. Just z)) (names_values e sorts w xs us (names_distinct e prog sorts scale _ NoArgumentSort 0 xs s st (Some t ∷ []) k.0) fitting) in
               let met = constructed_met one.under t f d one.new us yes1 (one.before_are t (inl refl) ∙ is) new_are in
               let fact = Holds (Compare Equal t (Construct f (terms.in_row (known one.new)))) in
               let two = produced a one.store (assuming one.state fact) (λ s3 st3. K s st3) (given e prog sorts scale locals names one.state fact (λ st2. Produce e prog sorts scale a one.store st2 (λ s3 st3. K s st3)) one.holds one.under p one.stands met)

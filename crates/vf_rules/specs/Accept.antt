@@ -14,7 +14,7 @@ use Rattle.vf_meaning.specs.Assertions.{BlockOf, Assertion, ContractTree, Before
 use Rattle.vf_meaning.specs.Environments.{IsContractOf, MayLeak}
 use Rattle.vf_rules.specs.Terms.{Term, stored}
 use Rattle.vf_rules.specs.Terms as terms
-use Rattle.vf_rules.specs.States.{Fact, Holds, OfSort, CellOf, Of, SymbolicChunk, SymbolicState, Entails, Shows, Infeasible, assuming, assuming_all, with_chunks}
+use Rattle.vf_rules.specs.States.{Fact, Holds, OfSort, CellOf, Of, SymbolicChunk, SymbolicState, Entails, facts_of_thread, KnowsThread, Shows, Infeasible, assuming, assuming_all, with_chunks}
 use Rattle.vf_rules.specs.Fresh.{symbol, IsNew, IsFresh}
 use Rattle.vf_rules.specs.Types.{type_of_field, facts_of_type}
 use Rattle.vf_rules.specs.Produce.{Produce}
@@ -211,7 +211,7 @@ pub data Accepts (e : Environment) (p : ProgramTree) (f : FunctionTree) (k : Con
       → ((s : terms.Store) (su : SymbolicState) → IsAmong outs s su → Accepts e p f k now soon n su) → Accepts e p f k now soon n st
   may_know : {now soon : List Loop} {n : ℕ} {st : SymbolicState} (a : Assertion) (sorts : List Sort) (store : terms.Store) (outs : List Outcome) → HoldsOfNothing e st.path sorts a store → Produce e p sorts all_of_it a store st (IsAmong outs)
       → ((s : terms.Store) (su : SymbolicState) → IsAmong outs s su → Accepts e p f k now soon n su) → Accepts e p f k now soon n st
-  may_call_lemma : {now soon : List Loop} {n : ℕ} {st : SymbolicState} (lemma : LemmaTree) (ts : List Term) (outs : List Outcome) → LemmaHolds e p lemma → (MayLeak e (BodyOf lemma.identity) → MayLeak e (BeforeStep f.identity n)) → AreInhabited e lemma.contract.sorts → length ts ≡ lemma.contract.parameters → AreSorted e st.path lemma.contract.sorts ts
+  may_call_lemma : {now soon : List Loop} {n : ℕ} {st : SymbolicState} (lemma : LemmaTree) (ts : List Term) (outs : List Outcome) → LemmaHolds e p lemma → (MayLeak e (BodyOf lemma.identity) → MayLeak e (BeforeStep f.identity n)) → AreInhabited e lemma.contract.sorts → length ts ≡ lemma.contract.parameters → AreSorted e st.path lemma.contract.sorts ts → KnowsThread e st.path
       → Consume e p lemma.contract.sorts all_of_it lemma.contract.requires_this (call_store ts) st (λ s1 st1. AreFixed lemma.contract s1 × Produce e p lemma.contract.sorts all_of_it lemma.contract.ensures_this s1 st1 (IsAmong outs))
       → ((s : terms.Store) (su : SymbolicState) → IsAmong outs s su → Accepts e p f k now soon n su) → Accepts e p f k now soon n st
   may_enter : {now soon : List Loop} {n : ℕ} {st : SymbolicState} (loop : Loop) → loop.node ≡ n → IsLoop e p loop → Enters e p loop st
@@ -227,13 +227,13 @@ symbols_from i (suc n) = symbol i ∷ symbols_from (suc i) n
 abbrev pub parameter_symbols : ℕ → List Term
 parameter_symbols n = symbols_from 0 n
 
--- the state in which a body begins: the parameters have new symbols of their types and sorts, and no other local is set
+-- the state in which a body begins: the parameters have new symbols of their types and sorts, no other local is set, and the thread is named by a number
 abbrev pub beginning : FunctionTree → ContractTree → SymbolicState
 beginning f k = record {
   locals = map (λ t. Some t) (parameter_symbols (length f.signature.parameters)) ++ replicate (length f.locals - length f.signature.parameters) None;
   names = call_store (parameter_symbols (length f.signature.parameters));
   chunks = [];
-  path = facts_of_types f.signature.parameters (parameter_symbols (length f.signature.parameters)) ++ facts_of_sorts k.sorts (parameter_symbols (length f.signature.parameters));
+  path = facts_of_types f.signature.parameters (parameter_symbols (length f.signature.parameters)) ++ facts_of_sorts k.sorts (parameter_symbols (length f.signature.parameters)) ++ facts_of_thread;
 }
 
 -- a function is accepted: its precondition is produced from nothing, and its body accepted from there, the names of the precondition being those of the postcondition

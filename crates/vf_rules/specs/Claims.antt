@@ -7,7 +7,7 @@ use Rattle.vf_meaning.specs.Assertions.{ContractTree, Environment}
 use Rattle.vf_meaning.specs.Environments.{own_contract}
 use Rattle.vf_rules.specs.Terms.{Term, stored}
 use Rattle.vf_rules.specs.Terms as terms
-use Rattle.vf_rules.specs.States.{SymbolicState, assuming_all}
+use Rattle.vf_rules.specs.States.{SymbolicState, facts_of_thread, assuming_all}
 use Rattle.vf_rules.specs.Fresh.{symbol, IsNew}
 use Rattle.vf_rules.specs.Produce.{Produce}
 use Rattle.vf_rules.specs.Consume.{Consume}
@@ -16,13 +16,13 @@ use Rattle.vf_rules.specs.Predicates.{AreSorted}
 use Rattle.vf_rules.specs.Accept.{all_of_it, call_store, pointer_store, parameter_symbols, facts_of_types, facts_of_sorts, facts_of_result, HasContract, AreFixed, KeepsFixed}
 use Rattle.vf_rules.specs.GhostSteps.{AfterGhostSteps, NamesHave}
 
--- the state in which a refinement is checked: the parameters have new symbols of their types and sorts, and nothing else is there
+-- the state in which a refinement is checked: the parameters have new symbols of their types and sorts, the thread is named by a number, and nothing else is there
 abbrev pub before_claim : FunctionTree → ContractTree → SymbolicState
 before_claim f contract = record {
   locals = [];
   names = call_store (parameter_symbols (length f.signature.parameters));
   chunks = [];
-  path = facts_of_types f.signature.parameters (parameter_symbols (length f.signature.parameters)) ++ facts_of_sorts contract.sorts (parameter_symbols (length f.signature.parameters));
+  path = facts_of_types f.signature.parameters (parameter_symbols (length f.signature.parameters)) ++ facts_of_sorts contract.sorts (parameter_symbols (length f.signature.parameters)) ++ facts_of_thread;
 }
 
 -- the state with a term for the result among its ghost names

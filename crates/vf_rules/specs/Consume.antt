@@ -5,7 +5,7 @@ use Rattle.vf_meaning.specs.Ghost.{Sort, Not, Compare, Construct, Fraction, Shar
 use Rattle.vf_meaning.specs.Assertions.{ShareTree, Times, Taken, PatternTree, Is, Names, Wild, Head, BlockOf, Named, Family, Applied, Assertion, Pure, Empty, Both, Choose, Switch, Cell, Chunk, Branches, no_branches, branch, Environment}
 use Rattle.vf_rules.specs.Terms.{Term, Store, term_of, stored, in_row, times_terms, head_of, IsBound, IsBoundHead, AreBound}
 use Rattle.vf_rules.specs.States.{Fact, Holds, ChunkHead, CellOf, Of, SymbolicChunk, SymbolicState, Entails, with_chunks}
-use Rattle.vf_rules.specs.Produce.{known, facts_of_name, Covers, Given, ProducePatterns}
+use Rattle.vf_rules.specs.Produce.{known, facts_of_name, Covers, Given, NoArgumentSort, ProducePatterns}
 use Rattle.vf_rules.specs.Take.{same, IsQuotient, Takes, Removes, Changes}
 
 -- each of several facts is entailed
@@ -64,6 +64,6 @@ module _ (e : Environment) (p : ProgramTree) (sorts : List Sort) (scale : Term) 
     pub ConsumeBranches : Branches → Term → Store → SymbolicState → (Store → SymbolicState → Type 0) → Type 0
     ConsumeBranches no_branches t s st K = Unit {0}
     ConsumeBranches (branch c xs a rest) t s st K =
-        ProducePatterns e p sorts scale 0 (map (λ x. Names x) xs) s st (Some t ∷ []) (λ ts s1 st1.
+        ProducePatterns e p sorts scale NoArgumentSort 0 (map (λ x. Names x) xs) s st (Some t ∷ []) (λ ts s1 st1.
         Given e p sorts scale st1 (Holds (Compare Equal t (Construct c (in_row (known (drop 1 ts)))))) (λ st2. Consume a s1 st2 K))
         × ConsumeBranches rest t s st K

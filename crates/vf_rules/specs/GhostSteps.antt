@@ -5,7 +5,7 @@ use Rattle.vf_meaning.specs.Ghost.{Sort, Not}
 use Rattle.vf_meaning.specs.Assertions.{Assertion, BodyOf, Environment}
 use Rattle.vf_meaning.specs.Environments.{MayLeak}
 use Rattle.vf_rules.specs.Terms.{Term, Store}
-use Rattle.vf_rules.specs.States.{Fact, Holds, SymbolicState, Shows, Infeasible, assuming}
+use Rattle.vf_rules.specs.States.{Fact, Holds, SymbolicState, KnowsThread, Shows, Infeasible, assuming}
 use Rattle.vf_rules.specs.Produce.{Produce}
 use Rattle.vf_rules.specs.Take.{Changes}
 use Rattle.vf_rules.specs.Consume.{Consume}
@@ -28,7 +28,7 @@ pub data AfterGhostSteps (e : Environment) (p : ProgramTree) (K : SymbolicState 
   may_split : {st : SymbolicState} (t : Term) → AfterGhostSteps e p K (assuming st (Holds t)) → AfterGhostSteps e p K (assuming st (Holds (Not t))) → AfterGhostSteps e p K st
   may_know : {st : SymbolicState} (a : Assertion) (sorts : List Sort) (store : Store) (outs : List Outcome) → HoldsOfNothing e st.path sorts a store → Produce e p sorts all_of_it a store st (IsAmong outs)
       → ((s : Store) (su : SymbolicState) → IsAmong outs s su → AfterGhostSteps e p K su) → AfterGhostSteps e p K st
-  may_call_lemma : {st : SymbolicState} (lemma : LemmaTree) (ts : List Term) (outs : List Outcome) → LemmaHolds e p lemma → (MayLeak e (BodyOf lemma.identity) → ⊥) → AreInhabited e lemma.contract.sorts → length ts ≡ lemma.contract.parameters → AreSorted e st.path lemma.contract.sorts ts
+  may_call_lemma : {st : SymbolicState} (lemma : LemmaTree) (ts : List Term) (outs : List Outcome) → LemmaHolds e p lemma → (MayLeak e (BodyOf lemma.identity) → ⊥) → AreInhabited e lemma.contract.sorts → length ts ≡ lemma.contract.parameters → AreSorted e st.path lemma.contract.sorts ts → KnowsThread e st.path
       → Consume e p lemma.contract.sorts all_of_it lemma.contract.requires_this (call_store ts) st (λ s1 st1. AreFixed lemma.contract s1 × Produce e p lemma.contract.sorts all_of_it lemma.contract.ensures_this s1 st1 (IsAmong outs))
       → ((s : Store) (su : SymbolicState) → IsAmong outs s su → AfterGhostSteps e p K su) → AfterGhostSteps e p K st
 

@@ -4,7 +4,7 @@ use Rattle.vf_tree.specs.Core.{Field}
 use Rattle.vf_model.specs.Values.{Dyadic, Value}
 use Rattle.vf_model.specs.Values as values
 use Rattle.vf_meaning.specs.Fractions.{whole, IsPositive}
-use Rattle.vf_meaning.specs.Ghost.{Name, Sort}
+use Rattle.vf_meaning.specs.Ghost.{Name, CurrentThread, Sort, Integers, Variable}
 use Rattle.vf_meaning.specs.Valuations.{Valuation, is_true}
 use Rattle.vf_meaning.specs.GhostValues.{Interpretation, value_of, interpreted}
 use Rattle.vf_meaning.specs.Assertions.{Head, Environment}
@@ -100,6 +100,14 @@ pub record StandsFor (e : Environment) (v : Valuation) (st : SymbolicState) (loc
 -- every valuation that meets the facts meets the goal, which is what a right answer says
 pub record Entails (e : Environment) (path : List Fact) (goal : Fact) : Type 0 where
   pub by : (v : Valuation) → Meets e v path → IsMet e v goal
+
+-- what is known of the running thread: it is named by a number
+abbrev pub facts_of_thread : List Fact
+facts_of_thread = OfSort (Variable CurrentThread) Integers ∷ []
+
+-- on a path the running thread is known to be named by a number
+abbrev pub KnowsThread : Environment → List Fact → Type 0
+KnowsThread e path = Entails e path (OfSort (Variable CurrentThread) Integers)
 
 -- a state shows a fact: wherever the state stands for something, its chunks too, the fact is met
 pub record Shows (e : Environment) (st : SymbolicState) (f : Fact) : Type 0 where

@@ -9,7 +9,7 @@ use Rattle.vf_model.specs.Values.{Value, same_identity}
 use Rattle.vf_model.specs.Values as values
 use Rattle.vf_model.specs.Integers.{least, greatest, InRange}
 use Rattle.vf_meaning.specs.Fractions.{IsPositive}
-use Rattle.vf_meaning.specs.Ghost.{Sort, Truths, Integers, Pointers, Predicates, Number, Compare}
+use Rattle.vf_meaning.specs.Ghost.{Sort, Truths, Integers, Pointers, Anything, Predicates, Number, Compare}
 use Rattle.vf_meaning.specs.Ghost as ghost
 use Rattle.vf_meaning.specs.Assertions.{Environment}
 use Rattle.vf_meaning.specs.Sorts.{HasSort}
@@ -73,13 +73,13 @@ fields_in (Some s) = s.fields
 abbrev pub type_of_field : ProgramTree → Identity → ℕ → Option TypeTree
 type_of_field p g i = slice_get (fields_in (find (λ s. same_identity s.identity g) p.structs)) i
 
--- a content has the type or the sort of its location: a cell holds a value of its field's type or none, a mutex a predicate value without arguments, a held one also a positive fraction, and a handle a function and a pointer
+-- a content has the type or the sort of its location: a cell holds a value of its field's type or none, a mutex a predicate value without arguments, a held one also a positive fraction, and a handle a function, a pointer and a value of any sort
 abbrev pub IsTypedContent : Environment → ProgramTree → Location → Content → Type 0
 IsTypedContent e p (FieldCell b g i) (CellOf (Some w)) = (t : TypeTree) → type_of_field p g i ≡ Some t → IsOfType t w
 IsTypedContent e p (IndexCell b i) (CellOf (Some w)) = IsOfInteger types.Int w
 IsTypedContent e p (MutexAt b) (MutexOf q) = HasSort e q (Predicates ghost.none)
 IsTypedContent e p (HeldAt b) (HeldOf q t f) = HasSort e q (Predicates ghost.none) × IsPositive f
-IsTypedContent e p (HandleAt b) (HandleOf run argument info) = HasSort e run Pointers × HasSort e argument Pointers
+IsTypedContent e p (HandleAt b) (HandleOf run argument info) = HasSort e run Pointers × HasSort e argument Pointers × HasSort e info Anything
 IsTypedContent e p _ _ = Unit {0}
 
 -- every content that a part owns has its type or sort

@@ -178,7 +178,7 @@ rows_have_lengths e s share pointer many content v p (n, (x, is_share, (w, cells
 
 -- ---- lemmas
 pub unchanging_lemmas_hold : UnchangingLemmasHold
-unchanging_lemmas_hold e prog lemma unchanged under p sorts typed required = record {
+unchanging_lemmas_hold e prog lemma unchanged under p (sorts, thread) typed required = record {
   kept = p;
   leaked = nothing;
   sums = sums_turn nothing p p (nothing_is_neutral p);

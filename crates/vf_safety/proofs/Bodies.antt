@@ -143,8 +143,8 @@ module _ (e : Environment) (p : ProgramTree) (t : ℕ) (duty : Duties) (f : Func
       leaving_safe e p t duty (suc m) (frame ∷ callers) c.off less.0 own less.2 (λ s here none. absurd (none (leak_stands n st (suc m) frame callers own r stands s here)))
       (body_safe (go c.store c.state c.holds) (suc m) h i frame callers less.0
       (leaves_less e p t duty f k n st c.state (suc m) frame callers own less.0 r c.under c.left c.stands (typed_of_right e p c.off less.0 own less.2 r.typed) less.1))
-  body_safe {now} {soon} {n} {st} (may_call_lemma lemma ts outs holds stands inhabited long sorted consume go) (suc m) h i frame callers own r =
-      let c = lemma_called e p lemma ts outs st holds inhabited sorted consume frame.locals r.names r.symbols r.part r.stands (typed_of_left e p r.part r.kept own r.sums r.typed) in
+  body_safe {now} {soon} {n} {st} (may_call_lemma lemma ts outs holds stands inhabited long sorted knows consume go) (suc m) h i frame callers own r =
+      let c = lemma_called e p lemma ts outs st holds inhabited sorted knows consume frame.locals r.names r.symbols r.part r.stands (typed_of_left e p r.part r.kept own r.sums r.typed) in
       let less = apart c.leaked c.left r.part r.kept own c.sums r.sums in
       leaving_safe e p t duty (suc m) (frame ∷ callers) c.leaked less.0 own less.2
       (λ s here none. c.unleaked (λ leaks. none (leak_stands n st (suc m) frame callers own r (stands leaks) s here)))

@@ -5,7 +5,7 @@ use Rattle.vf_model.specs.Values.{Value}
 use Rattle.vf_model.specs.Values as values
 use Rattle.vf_model.specs.State.{Thread, entered}
 use Rattle.vf_meaning.specs.Fractions.{whole}
-use Rattle.vf_meaning.specs.Ghost.{Name, Numbered, Result, This, CurrentThread, Variable, Function}
+use Rattle.vf_meaning.specs.Ghost.{Integers, Name, Numbered, Result, This, CurrentThread, Variable, Function}
 use Rattle.vf_meaning.specs.Valuations.{Valuation, bound}
 use Rattle.vf_meaning.specs.Assertions.{ContractTree, Environment}
 use Rattle.vf_meaning.specs.Sorts.{AreOfSorts, HasSort}
@@ -21,12 +21,12 @@ use Rattle.vf_rules.specs.Types.{IsTypedPart}
 use Rattle.vf_rules.specs.Produce.{Produce}
 use Rattle.vf_rules.specs.Laws.{IsAmong}
 use Rattle.vf_rules.specs.Predicates.{store_of}
-use Rattle.vf_rules.specs.Accept.{all_of_it, call_store, pointer_store, parameter_symbols, facts_of_types, facts_of_sorts, facts_of_result, HasContract, AreFixed}
+use Rattle.vf_rules.specs.Accept.{all_of_it, call_store, pointer_store, parameter_symbols, facts_of_result, HasContract, AreFixed}
 use Rattle.vf_rules.specs.Claims.{before_claim, Ends, StandsIn, Refines, RefinesType, RefinesPrototype, AreClaimsKept}
 use Rattle.vf_rules.specs.Claims as claims
 use Rattle.vf_rules.specs.GhostSteps.{AfterGhostSteps}
 use Rattle.vf_rules.proofs.Terms.{fresh_store, own_symbol, stored_own, stored_other, stored_means}
-use Rattle.vf_rules.proofs.Stands.{meets_more, stands_fresh, assuming_all_stands}
+use Rattle.vf_rules.proofs.Stands.{stands_fresh, assuming_all_stands}
 use Rattle.vf_rules.proofs.Produces.{produced}
 use Rattle.vf_rules.proofs.Consumes.{consumed}
 use Rattle.vf_rules.proofs.Opening.{completed, completed_means, completed_sorted}
@@ -37,17 +37,17 @@ use Rattle.vf_safety.proofs.GhostSteps.{reached}
 use Rattle.vf_safety.proofs.Ready.{FunctionSafe, TypeSafe, FunctionsSafe, TypesSafe, positive_whole, nothing_left, names_sorted}
 use Rattle.vf_safety.proofs.CallSteps.{result_or, with_result_means, with_result_sorted, result_value, result_facts, result_bound, sorted_arguments}
 use Rattle.vf_safety.proofs.Returns.{consumed_ensures, result_means, override, override_means}
-use Rattle.vf_safety.proofs.Functions.{row_of, zero_plus, types_met, sorts_met, begins_mean, neutral, symbol_is}
+use Rattle.vf_safety.proofs.Functions.{row_of, zero_plus, types_met, sorts_met, path_met, numbered_thread, begins_mean, neutral, symbol_is}
 
 module _ (e : Environment) (p : ProgramTree) (t : ℕ) where
   -- before a claim's precondition nothing is there
   before_stands : (f : FunctionTree) (contract : ContractTree) (arguments : List Value) (w : Valuation) → length arguments ≡ length f.signature.parameters → AllMayBe f.signature.parameters arguments
-      → ((j : ℕ) (a : Value) → slice_get arguments j ≡ Some a → w (Numbered j) ≡ a) → AreOfSorts e w contract.sorts → StandsFor e w (before_claim f contract) [] w nothing
-  before_stands f contract arguments w long may begins of_sorts =
+      → ((j : ℕ) (a : Value) → slice_get arguments j ≡ Some a → w (Numbered j) ≡ a) → AreOfSorts e w contract.sorts → HasSort e (w CurrentThread) Integers → StandsFor e w (before_claim f contract) [] w nothing
+  before_stands f contract arguments w long may begins of_sorts thread =
       let n = length f.signature.parameters in
       let row = row_of w 0 arguments (λ j a is. ap (λ z. w (Numbered z)) (zero_plus j) ∙ begins j a is) in
       record {
-        path = meets_more e w (facts_of_types f.signature.parameters (parameter_symbols n)) (facts_of_sorts contract.sorts (parameter_symbols n)) (types_met e w 0 n f.signature.parameters arguments long row may) (sorts_met e w 0 n contract.sorts (λ j r is. subst (λ z. HasSort e (w (Numbered z)) r) (sym (zero_plus j)) (of_sorts j r is)));
+        path = path_met e w n f.signature.parameters contract.sorts (types_met e w 0 n f.signature.parameters arguments long row may) (sorts_met e w 0 n contract.sorts (λ j r is. subst (λ z. HasSort e (w (Numbered z)) r) (sym (zero_plus j)) (of_sorts j r is))) thread;
         locals_mean = tt;
         names_mean = begins_mean e w n;
         chunks_mean = refl;
@@ -119,7 +119,7 @@ module _ (e : Environment) (p : ProgramTree) (t : ℕ) where
       let np = length f.signature.parameters in
       let symbols = parameter_symbols np in
       let count : length arguments ≡ np = long ∙ refines.parameters in
-      let before = before_stands f contract arguments w count may begins of_sorts in
+      let before = before_stands f contract arguments w count may begins of_sorts (numbered_thread e w t thread) in
       let o = produced e p contract.sorts all_of_it whole required.0 [] w contract.requires_this store (before_claim f contract) (IsAmong refines.outs) refines.required
       w w q nothing q before (means_names (begins_mean e w np)) of_sorts refl positive_whole required.1 (typed_of_left e p q r owned sums typed) (neutral q) in
       let st : SymbolicState = record o.state { names = o.store } in

@@ -1,17 +1,18 @@
 -- Accepted functions are safe: their beginnings stand for the part that satisfies the precondition, and their bodies are safe from there.
-use Rattle.std.proofs.Common.{◌≡◌, ℕ, zero, suc, ◌<◌, ◌+◌, ◌-◌, List, [], ◌∷◌, ◌++◌, length, map, replicate, slice_get, Some, None, refl, sym, ap, subst, ◌∙◌, arith}
+use Rattle.std.proofs.Common.{◌≡◌, ℕ, zero, suc, ◌<◌, ◌+◌, ◌-◌, List, [], ◌∷◌, ◌++◌, length, map, replicate, slice_get, Some, None, refl, sym, ap, subst, ◌∙◌, inl, pos, arith}
 use Rattle.vf_tree.specs.Core.{TypeTree, Void, Integer, PointerToVoid, PointerToInt, PointerToStruct, PointerToFunction, FunctionTree, ProgramTree}
 use Rattle.vf_model.specs.Values.{Value}
+use Rattle.vf_model.specs.Values as values
 use Rattle.vf_model.specs.State.{entered, locals_of}
 use Rattle.vf_meaning.specs.Fractions.{whole}
-use Rattle.vf_meaning.specs.Ghost.{Sort, Numbered, Result, This, CurrentThread, Variable}
+use Rattle.vf_meaning.specs.Ghost.{Sort, Integers, Numbered, Result, This, CurrentThread, Variable}
 use Rattle.vf_meaning.specs.Valuations.{Valuation}
 use Rattle.vf_meaning.specs.Assertions.{ContractTree, Environment}
 use Rattle.vf_meaning.specs.Sorts.{HasSort, AreOfSorts}
 use Rattle.vf_meaning.specs.Parts.{Part, nothing, IsSum}
 use Rattle.vf_meaning.proofs.Parts.{sums_turn, nothing_is_neutral}
 use Rattle.vf_rules.specs.Terms.{Term}
-use Rattle.vf_rules.specs.States.{value_in, Meets, LocalsMean, StoreMeans, StandsFor}
+use Rattle.vf_rules.specs.States.{value_in, Meets, facts_of_thread, LocalsMean, StoreMeans, StandsFor}
 use Rattle.vf_rules.specs.Fresh.{symbol}
 use Rattle.vf_rules.specs.Types.{facts_of_type}
 use Rattle.vf_rules.specs.Laws.{IsAmong}
@@ -101,14 +102,24 @@ module _ (e : Environment) (w : Valuation) where
 pub neutral : (q : Part) → IsSum q nothing q
 neutral q = sums_turn nothing q q (nothing_is_neutral q)
 
+-- what is known at the beginning is met
+pub path_met : (e : Environment) (w : Valuation) (n : ℕ) (types : List TypeTree) (sorts : List Sort) → Meets e w (facts_of_types types (parameter_symbols n)) → Meets e w (facts_of_sorts sorts (parameter_symbols n)) → HasSort e (w CurrentThread) Integers
+    → Meets e w (facts_of_types types (parameter_symbols n) ++ facts_of_sorts sorts (parameter_symbols n) ++ facts_of_thread)
+path_met e w n types sorts of_types of_sorts thread =
+    meets_more e w (facts_of_types types (parameter_symbols n) ++ facts_of_sorts sorts (parameter_symbols n)) facts_of_thread (meets_more e w (facts_of_types types (parameter_symbols n)) (facts_of_sorts sorts (parameter_symbols n)) of_types of_sorts) (thread, tt)
+
+-- a thread is named by a number
+pub numbered_thread : (e : Environment) (w : Valuation) (t : ℕ) → w CurrentThread ≡ values.Number (pos t) → HasSort e (w CurrentThread) Integers
+numbered_thread e w t is = subst (λ z. HasSort e z Integers) (sym is) (inl refl)
+
 -- the beginning of a body stands for nothing
 begins_stand : (e : Environment) (f : FunctionTree) (k : ContractTree) (arguments : List Value) (w : Valuation) → length arguments ≡ length f.signature.parameters → AllMayBe f.signature.parameters arguments
-    → ((j : ℕ) (a : Value) → slice_get arguments j ≡ Some a → w (Numbered j) ≡ a) → AreOfSorts e w k.sorts → StandsFor e w (beginning f k) (locals_of f arguments) w nothing
-begins_stand e f k arguments w long may begins of_sorts =
+    → ((j : ℕ) (a : Value) → slice_get arguments j ≡ Some a → w (Numbered j) ≡ a) → AreOfSorts e w k.sorts → HasSort e (w CurrentThread) Integers → StandsFor e w (beginning f k) (locals_of f arguments) w nothing
+begins_stand e f k arguments w long may begins of_sorts thread =
     let n = length f.signature.parameters in
     let row = row_of w 0 arguments (λ j a is. ap (λ z. w (Numbered z)) (zero_plus j) ∙ begins j a is) in
     record {
-      path = meets_more e w (facts_of_types f.signature.parameters (parameter_symbols n)) (facts_of_sorts k.sorts (parameter_symbols n)) (types_met e w 0 n f.signature.parameters arguments long row may) (sorts_met e w 0 n k.sorts (λ j r is. subst (λ z. HasSort e (w (Numbered z)) r) (sym (zero_plus j)) (of_sorts j r is)));
+      path = path_met e w n f.signature.parameters k.sorts (types_met e w 0 n f.signature.parameters arguments long row may) (sorts_met e w 0 n k.sorts (λ j r is. subst (λ z. HasSort e (w (Numbered z)) r) (sym (zero_plus j)) (of_sorts j r is))) thread;
       locals_mean = subst (λ z. LocalsMean e w (map (λ t. Some t) (parameter_symbols n) ++ replicate (length f.locals - n) None) (map (λ a. Some a) arguments ++ replicate (length f.locals - z) None)) (sym long) (locals_mean e w 0 n (length f.locals - n) arguments long row);
       names_mean = begins_mean e w n;
       chunks_mean = refl;
@@ -120,7 +131,7 @@ module _ (e : Environment) (p : ProgramTree) (t : ℕ) where
       let parameters = (accepted.contract).parameters in
       let count : length arguments ≡ length f.signature.parameters = long ∙ parameters in
       let o = produced e p k.sorts all_of_it whole required.0 (locals_of f arguments) w k.requires_this (call_store (parameter_symbols (length f.signature.parameters))) (beginning f k) (IsAmong accepted.outs) accepted.produced
-      w w q nothing q (begins_stand e f k arguments w count may begins of_sorts) (begins_mean e w (length f.signature.parameters)) of_sorts refl positive_whole required.1 (typed_of_left e p q r own sums typed) (neutral q) in
+      w w q nothing q (begins_stand e f k arguments w count may begins of_sorts (numbered_thread e w t thread)) (begins_mean e w (length f.signature.parameters)) of_sorts refl positive_whole required.1 (typed_of_left e p q r own sums typed) (neutral q) in
       let stands = o.stands in
       body_safe e p t duty f k (accepted.body o.store o.state o.holds) n (λ loop one. absurd one) (λ loop one. absurd one) (entered number f arguments target) callers own
       (record {

@@ -56,8 +56,8 @@ module _ (e : Environment) (p : ProgramTree) (K : SymbolicState → Type 0) (loc
       let known = of_nothing.by v stands.path in
       let o = produced e p sorts all_of_it whole (known.3).0 locals names a store st (IsAmong outs) produce v known.0 nothing q q stands known.1 known.2 refl positive_whole (known.3).1 (nothing_typed e p) (nothing_is_neutral q) in
       reached (go o.store o.state o.holds) o.under o.stands
-  reached {st} (may_call_lemma lemma ts outs holds unleaking inhabited long sorted consume go) v stands =
-      let c = lemma_called e p lemma ts outs st holds inhabited sorted consume locals names v q stands typed in
+  reached {st} (may_call_lemma lemma ts outs holds unleaking inhabited long sorted knows consume go) v stands =
+      let c = lemma_called e p lemma ts outs st holds inhabited sorted knows consume locals names v q stands typed in
       reached (go c.store c.state c.holds) c.under (subst (StandsFor e c.under c.state locals names) (all_left c.leaked c.left q (c.unleaked unleaking) c.sums) c.stands)
 
 pub ghost_steps_keep : GhostStepsKeep

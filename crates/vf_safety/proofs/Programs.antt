@@ -65,7 +65,7 @@ begun : (e : Environment) (p : ProgramTree) (a : IsAcceptedProgram e p) → Begu
 unfolding all_noughts
 begun e p a =
     let v = all_noughts in
-    let stands : StandsFor e v before_main [] v nothing = record { path = tt; locals_mean = tt; names_mean = begins_mean e v 0; chunks_mean = refl } in
+    let stands : StandsFor e v before_main [] v nothing = record { path = (inl refl, tt); locals_mean = tt; names_mean = begins_mean e v 0; chunks_mean = refl } in
     let g = reached e p (Begins e p a.contract) [] v nothing (nothing_typed e p) a.begins v stands in
     let (have, consume) = g.holds in
     let c = consumed e p (a.contract).sorts all_of_it whole [] v (a.contract).requires_this (call_store []) g.state (λ s st. st.chunks ≡ []) consume g.under nothing g.stands (no_names e g.under (a.contract).sorts) refl in

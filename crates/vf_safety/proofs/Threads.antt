@@ -430,7 +430,7 @@ module _ (e : Environment) (p : ProgramTree) (t : ℕ) (duties : Duties) (S : �
         let (outer, beside, sums) = apart off inner own rest all asks.parted asks.sums in
         let now = blocks_are_added s.memory b (Handle u k (names (Numbered 1))) new all asks.fits free (handle_alone b u k (names (Numbered 1)) (names (Numbered 2))) in
         let x = gives_out new off inner rest outer all now.all sums beside now.sums in
-        let typed_new = typed_single e p (HandleAt b) content whole (subst (λ z. HasSort e z Pointers) a.callee (asks.of_sorts 0 Pointers refl), asks.of_sorts 1 Pointers refl) in
+        let typed_new = typed_single e p (HandleAt b) content whole (subst (λ z. HasSort e z Pointers) a.callee (asks.of_sorts 0 Pointers refl), asks.of_sorts 1 Pointers refl, asks.of_sorts 2 Anything refl) in
         let typed = typed_sum e p new all now.all now.sums typed_new asks.typed in
         record {
           exchange = to_joinable b (first ∷ []) d off;

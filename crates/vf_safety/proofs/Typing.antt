@@ -54,9 +54,10 @@ clash7 e = cc
 clash8 : Pointers ≡ ghost.Anything → ⊥
 clash8 e = cc
 
-no_datatype : (o : Option ConstructorTree) (s : Sort) → ((d : _) → s ≡ ghost.Datatype d → ⊥) → (s ≡ ghost.Anything → ⊥) → IsDatatypeOf o s → ⊥
+no_datatype : (o : Option ConstructorTree) (s : Sort) → ((d : _) (ts : ghost.Sorts) → s ≡ ghost.Datatype d ts → ⊥) → (s ≡ ghost.Anything → ⊥) → IsDatatypeOf o s → ⊥
 no_datatype None s h k m = m
-no_datatype (Some c) (ghost.Datatype d) h k m = h d refl
+no_datatype (Some c) (ghost.Datatype d ts) h k m = h d ts refl
+no_datatype (Some c) (ghost.Parameter j) h k m = m
 no_datatype (Some c) ghost.Anything h k m = k refl
 no_datatype (Some c) Integers h k m = m
 no_datatype (Some c) Truths h k m = m
@@ -64,11 +65,11 @@ no_datatype (Some c) Pointers h k m = m
 no_datatype (Some c) ghost.Fractions h k m = m
 no_datatype (Some c) (ghost.Predicates ss) h k m = m
 
-truths_no_datatype : (d : _) → Truths ≡ ghost.Datatype d → ⊥
-truths_no_datatype d e = cc
+truths_no_datatype : (d : _) (ts : ghost.Sorts) → Truths ≡ ghost.Datatype d ts → ⊥
+truths_no_datatype d ts e = cc
 
-pointers_no_datatype : (d : _) → Pointers ≡ ghost.Datatype d → ⊥
-pointers_no_datatype d e = cc
+pointers_no_datatype : (d : _) (ts : ghost.Sorts) → Pointers ≡ ghost.Datatype d ts → ⊥
+pointers_no_datatype d ts e = cc
 
 pub truth_value : (e : Environment) (w : Value) → HasSort e w Truths → IsTruth w
 truth_value e (values.Truth b) h = tt

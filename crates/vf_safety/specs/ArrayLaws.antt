@@ -4,7 +4,7 @@ use Rattle.vf_tree.specs.Core.{Identity, Add, Subtract, LessEqual, ProgramTree}
 use Rattle.vf_model.specs.Values.{Dyadic}
 use Rattle.vf_model.specs.Values as values
 use Rattle.vf_meaning.specs.Fractions.{whole}
-use Rattle.vf_meaning.specs.Ghost.{Sort, Integers, Pointers, Fractions, Datatype, Numbered, GhostExpression, no_expressions, and_expression, Number, Truth, Construct, Apply, Arithmetic, PointerSum, Compare, Choose, CaseTree, FixpointTree, Switches}
+use Rattle.vf_meaning.specs.Ghost.{Sort, Integers, Pointers, Fractions, Datatype, none, Numbered, GhostExpression, no_expressions, and_expression, Number, Truth, Construct, Apply, Arithmetic, PointerSum, Compare, Choose, CaseTree, FixpointTree, Switches}
 use Rattle.vf_meaning.specs.Valuations.{Valuation}
 use Rattle.vf_meaning.specs.GhostValues.{value_of, interpreted}
 use Rattle.vf_meaning.specs.Assertions.{ShareTree, Times, Taken, PatternTree, Is, Names, Wild, Named, Assertion, Pure, Both, Chunk, ContractTree, Environment}
@@ -18,7 +18,7 @@ use Rattle.vf_rules.specs.Mutexes.{full, name}
 -- ---- lists of numbers
 -- the sort of lists of numbers
 abbrev pub numbers : Sort
-numbers = Datatype (codes "<vf_arrays.h>#ints_list")
+numbers = Datatype (codes "<vf_arrays.h>#ints_list") none
 
 -- the list without numbers
 abbrev pub nil : GhostExpression

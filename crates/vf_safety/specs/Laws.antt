@@ -15,7 +15,7 @@ use Rattle.vf_meaning.specs.Parts.{Part, nothing, IsSum}
 use Rattle.vf_meaning.specs.Satisfaction.{Satisfies}
 use Rattle.vf_meaning.specs.Kept.{IsSafe, Kept}
 use Rattle.vf_rules.specs.Types.{IsOfType, IsTypedPart}
-use Rattle.vf_rules.specs.States.{SymbolicState}
+use Rattle.vf_rules.specs.States.{SymbolicState, facts_of_thread}
 use Rattle.vf_rules.specs.Consume.{Consume}
 use Rattle.vf_rules.specs.Accept.{all_of_it, call_store, HasContract, IsAcceptedFunction}
 use Rattle.vf_rules.specs.GhostSteps.{AfterGhostSteps, NamesHave}
@@ -66,9 +66,9 @@ AcceptedThreadsAreSafe =
     → rest ≡ nothing → MayCall e p t number f k arguments names rest own → (n : ℕ)
     → Safe e p t (record { contract = k; names = names; rest = nothing; below = 0 } ∷ []) n (entered number f arguments None ∷ []) own
 
--- before its first step main has no locals and no chunks, and nothing is known but which name the thread has
+-- before its first step main has no locals and no chunks, and nothing is known but which name the thread has, and that it is a number
 abbrev pub before_main : SymbolicState
-before_main = record { locals = []; names = call_store []; chunks = []; path = [] }
+before_main = record { locals = []; names = call_store []; chunks = []; path = facts_of_thread }
 
 -- main may begin in a state: its precondition is consumed, and nothing is left
 abbrev pub Begins : Environment → ProgramTree → ContractTree → SymbolicState → Type 0
