@@ -1,5 +1,5 @@
 -- The lemma of the first unit is accepted under the contract of its definition, which refines that of its prototype.
-use Rattle.std.proofs.Common.{◌≡◌, zero, suc, true, List, [], ◌∷◌, refl, inl, inr}
+use Rattle.std.proofs.Common.{◌≡◌, zero, suc, true, List, [], ◌∷◌, refl, subst, inl, inr}
 use Rattle.vf_meaning.specs.Ghost.{Truth}
 use Rattle.vf_meaning.specs.Assertions.{Named, Plain, ContractTree}
 use Rattle.vf_rules.specs.States.{Holds, SymbolicState, assuming, with_chunk, with_chunks}
@@ -134,4 +134,6 @@ pub again_keeps : LemmaKeepsContracts both_units two_program again_name
 again_keeps = record { own = again_own; is_own = refl; falls = OnArgument 0; accepted = λ called. again_accepted; refines = λ defined prototype of_definition of_prototype. each (some_same of_definition) (some_same of_prototype) }
   where
     each : {defined prototype : ContractTree} → again_own ≡ defined → again_prototype ≡ prototype → RefinesLemma both_units two_program (record { identity = again_name; contract = defined; falls = OnArgument 0 }) prototype
-    each refl refl = again_refines
+    each {defined = defined} own_is prototype_is =
+        subst (λ z. RefinesLemma both_units two_program (record { identity = again_name; contract = defined; falls = OnArgument 0 }) z) prototype_is
+        (subst (λ z. RefinesLemma both_units two_program (record { identity = again_name; contract = z; falls = OnArgument 0 }) again_prototype) own_is again_refines)

@@ -26,11 +26,11 @@ abbrev with_result_known : SymbolicState
 with_result_known = assuming_all begun (facts_of_result (seven.signature).result (symbol 0))
 
 abbrev called : SymbolicState
-called = with_local (assuming (with_chunk with_result_known done_chunk) (Holds (same (symbol 0) (Number (pos 7))))) 0 (symbol 0)
+called = with_local (assuming (with_chunk with_result_known done_chunk) (same (symbol 0) (Number (pos 7)))) 0 (symbol 0)
 
 returns : Accepts both_units two_program main main_own [] [] 1 called
 returns =
-    do_return {now = []} {soon = []} {n = 1} {st = called} (core.Read 0 somewhere) (symbol 0) refl refl (between_known begun.path (facts_of_result (seven.signature).result (symbol 0)) (Holds (same (symbol 0) (Number (pos 7))) ∷ [])) integer_is_no_void (
+    do_return {now = []} {soon = []} {n = 1} {st = called} (core.Read 0 somewhere) (symbol 0) refl refl (between_known begun.path (facts_of_result (seven.signature).result (symbol 0)) (same (symbol 0) (Number (pos 7)) ∷ [])) integer_is_no_void (
       nothing_bound (stored (call_store []) Result (symbol 0)),
       (
         called,
@@ -45,7 +45,7 @@ returns =
               refl,
               (
                 first_bound (stored (call_store []) Result (symbol 0)) Result (symbol 0) refl,
-                last_known with_result_known.path (Holds (same (symbol 0) (Number (pos 7)))),
+                last_known with_result_known.path (same (symbol 0) (Number (pos 7))),
                 (refl, keeps_result main_own (call_store []) (symbol 0)),
               ),
             ),

@@ -1,5 +1,5 @@
 -- The function of the first unit is accepted under the contract of its definition, which refines that of its prototype.
-use Rattle.std.proofs.Common.{◌≡◌, zero, suc, pos, true, List, [], ◌∷◌, refl, inl, inr, arith}
+use Rattle.std.proofs.Common.{◌≡◌, zero, suc, pos, true, List, [], ◌∷◌, refl, subst, inl, inr, arith}
 use Rattle.vf_tree.specs.Core as core
 use Rattle.vf_meaning.specs.Ghost.{Result, Number, Truth}
 use Rattle.vf_meaning.specs.Assertions.{Named, Plain, ContractTree}
@@ -79,7 +79,7 @@ wanted = assuming (before_claim seven seven_prototype) (Holds (Truth true))
 
 -- behind the own contract
 abbrev with_seven : SymbolicState
-with_seven = assuming (assuming_all wanted (facts_of_result (seven.signature).result (symbol 0))) (Holds (same (symbol 0) (Number (pos 7))))
+with_seven = assuming (assuming_all wanted (facts_of_result (seven.signature).result (symbol 0))) (same (symbol 0) (Number (pos 7)))
 
 abbrev given_back : SymbolicState
 given_back = with_result (with_chunk with_seven done_chunk) (symbol 0)
@@ -103,7 +103,7 @@ ended = (
             refl,
             (
               first_bound given_back.names Result (symbol 0) refl,
-              last_known (assuming_all wanted (facts_of_result (seven.signature).result (symbol 0))).path (Holds (same (symbol 0) (Number (pos 7)))),
+              last_known (assuming_all wanted (facts_of_result (seven.signature).result (symbol 0))).path (same (symbol 0) (Number (pos 7))),
               (refl, λ x t fixed is. is),
             ),
           ),
@@ -144,4 +144,4 @@ pub seven_keeps : KeepsContracts both_units two_program seven
 seven_keeps = record { own = seven_own; is_own = refl; accepted = accepted; refines = λ defined prototype of_definition of_prototype. each (some_same of_definition) (some_same of_prototype) }
   where
     each : {defined prototype : ContractTree} → seven_own ≡ defined → seven_prototype ≡ prototype → RefinesPrototype both_units two_program seven defined prototype
-    each refl refl = refines
+    each {defined = defined} own_is prototype_is = subst (λ z. RefinesPrototype both_units two_program seven defined z) prototype_is (subst (λ z. RefinesPrototype both_units two_program seven z seven_prototype) own_is refines)
