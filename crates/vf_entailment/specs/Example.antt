@@ -3,7 +3,7 @@ use Rattle.std.specs.Prelude.{◌≡◌, ℕ, pos, false, cond, List, [], ◌∷
 use Rattle.vf_tree.specs.Core.{Identity, Add, Equal}
 use Rattle.vf_model.specs.Values.{same_identity}
 use Rattle.vf_model.specs.Values as values
-use Rattle.vf_meaning.specs.Ghost.{Sort, Integers, Truths, Anything, Datatype, Numbered, ConstructorTree, FixpointTree}
+use Rattle.vf_meaning.specs.Ghost.{Sort, Integers, Truths, Anything, Datatype, none, Numbered, ConstructorTree, FixpointTree}
 use Rattle.vf_meaning.specs.Ghost as ghosts
 use Rattle.vf_meaning.specs.Valuations.{Valuation}
 use Rattle.vf_meaning.specs.Structural.{AreOrdered}
@@ -95,7 +95,7 @@ list_definitions =
 
 -- ---- the environment
 abbrev pub lists : Sort
-lists = Datatype (codes "list.h#list")
+lists = Datatype (codes "list.h#list") none
 
 abbrev pub length_tree : FixpointTree
 length_tree = tree_of (codes "list.h#length") (lists ∷ []) Integers length_body
@@ -111,10 +111,10 @@ doubled_tree = tree_of (codes "list.h#doubled") (lists ∷ []) Integers doubled_
 
 -- the constructors of lists
 abbrev pub nil_constructor : ConstructorTree
-nil_constructor = record { datatype = codes "list.h#list"; arguments = [] }
+nil_constructor = record { datatype = codes "list.h#list"; parameters = 0; arguments = [] }
 
 abbrev pub cons_constructor : ConstructorTree
-cons_constructor = record { datatype = codes "list.h#list"; arguments = Integers ∷ lists ∷ [] }
+cons_constructor = record { datatype = codes "list.h#list"; parameters = 0; arguments = Integers ∷ lists ∷ [] }
 
 abbrev pub list_constructor : Identity → Option ConstructorTree
 list_constructor c = cond (same_identity c (codes "list.h#nil")) (Some nil_constructor) (cond (same_identity c (codes "list.h#cons")) (Some cons_constructor) None)

@@ -40,7 +40,7 @@ integers : HasValue Integers
 integers = (values.Number (pos 0), inl refl)
 
 lists : HasValue numbers
-lists = (list_of [], (refl, ([], refl, tt)))
+lists = (list_of [], ((refl, refl), ([], refl, tt)))
 
 get_inhabited : AreInhabited arrays get_contract.sorts
 get_inhabited zero s is = subst HasValue (some_same is) pointers
@@ -118,7 +118,7 @@ read_keeps CurrentThread u fix is = is
 read_ends : Accepts arrays array_program get get_contract [] [] 1 read
 read_ends =
     do_return {now = []} {soon = []} {n = 1} {st = read} (Read 3 somewhere) item refl refl
-    (by_place arrays read.path 15 (OfSort item Integers) refl, (by_place arrays read.path 16 (Holds (Compare LessEqual (Number (least types.Int)) item)) refl, (by_place arrays read.path 17 (Holds (Compare LessEqual item (Number (greatest types.Int)))) refl, tt)))
+    (by_place arrays read.path 16 (OfSort item Integers) refl, (by_place arrays read.path 17 (Holds (Compare LessEqual (Number (least types.Int)) item)) refl, (by_place arrays read.path 18 (Holds (Compare LessEqual item (Number (greatest types.Int)))) refl, tt)))
     integer_is_no_void (
       nothing_bound result_store,
       (
@@ -155,7 +155,7 @@ read_body : Accepts arrays array_program get get_contract [] [] 0 read_begun
 read_body =
     do_load_at {now = []} {soon = []} {n = 0} {st = read_begun} 3 (Read 0 somewhere) (Read 2 somewhere) somewhere 1 (symbol 0) (symbol 2) (symbol 0) (symbol 1) (symbol 3) (symbol 2) item read_row [] refl refl refl
     (by_place arrays read_path 4 (OfSort (symbol 2) Integers) refl) removes_here refl refl (finds_from (same_self arrays read_path (symbol 0)))
-    (by_place arrays read_path 13 (Holds (Compare LessEqual (Number (pos 0)) (symbol 2))) refl, by_place arrays read_path 14 (Holds (Compare Less (symbol 2) (symbol 1))) refl)
+    (by_place arrays read_path 14 (Holds (Compare LessEqual (Number (pos 0)) (symbol 2))) refl, by_place arrays read_path 15 (Holds (Compare Less (symbol 2) (symbol 1))) refl)
     (items_are_nth arrays elements read_path (symbol 3) (symbol 2)) read_ends
 
 get_is_accepted : IsAcceptedFunction arrays array_program get get_contract
@@ -251,7 +251,7 @@ write_body =
     (by_place arrays write_path 4 (OfSort (symbol 2) Integers) refl)
     (by_place arrays write_path 7 (OfSort (symbol 3) Integers) refl, (by_place arrays write_path 8 (Holds (Compare LessEqual (Number (least types.Int)) (symbol 3))) refl, (by_place arrays write_path 9 (Holds (Compare LessEqual (symbol 3) (Number (greatest types.Int)))) refl, tt)))
     (takes_all (by_value arrays write_path all_of_it share (λ v. refl))) refl refl (finds_from (same_self arrays write_path (symbol 0)))
-    (by_place arrays write_path 17 (Holds (Compare LessEqual (Number (pos 0)) (symbol 2))) refl, by_place arrays write_path 18 (Holds (Compare Less (symbol 2) (symbol 1))) refl)
+    (by_place arrays write_path 18 (Holds (Compare LessEqual (Number (pos 0)) (symbol 2))) refl, by_place arrays write_path 19 (Holds (Compare Less (symbol 2) (symbol 1))) refl)
     (becomes_set (written_lists_are_set arrays elements write_path (symbol 4) (symbol 2) (symbol 3))) write_ends
 
 put_is_accepted : IsAcceptedFunction arrays array_program put put_contract

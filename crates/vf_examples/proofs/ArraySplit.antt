@@ -4,7 +4,7 @@ use Rattle.vf_tree.specs.Core.{Subtract, Equal, LessEqual}
 use Rattle.vf_model.specs.Values.{Value}
 use Rattle.vf_model.specs.Values as values
 use Rattle.vf_meaning.specs.Fractions.{whole, product}
-use Rattle.vf_meaning.specs.Ghost.{Sort, Name, Integers, Pointers, Fractions, Numbered, CurrentThread, Number, Arithmetic, PointerSum, Compare, Fraction, Share}
+use Rattle.vf_meaning.specs.Ghost.{Sort, Name, Integers, Pointers, Fractions, Numbered, CurrentThread, Number, Arithmetic, PointerSum, Compare, Fraction, Share, Variable}
 use Rattle.vf_meaning.specs.Chunks.{list_of}
 use Rattle.vf_meaning.specs.Sorts.{HasSort}
 use Rattle.vf_meaning.proofs.Linking.{never_leaks}
@@ -20,7 +20,7 @@ use Rattle.vf_lemmas.specs.Proves.{Proves, may_end, may_call_held, IsAcceptedLem
 use Rattle.vf_safety.specs.ArrayLaws.{numbers, take_name, drop_name, apply, split_contract, DeclaresLists}
 use Rattle.vf_safety.proofs.ArrayLemmas.{rows_are_split, unchanging_lemmas_hold}
 use Rattle.vf_safety.proofs.ElementOrder.{elements_are_in_order}
-use Rattle.vf_examples.specs.TwoLemmas.{no_program}
+use Rattle.vf_examples.specs.SmallLemmas.{no_program}
 use Rattle.vf_examples.specs.ArrayCalls.{arrays, split_none, ints_split, SplittingIsAccepted}
 use Rattle.vf_examples.proofs.NewSymbols.{fresh_stored, fresh_call, fresh_state, new_symbol}
 use Rattle.vf_examples.proofs.SharingFacts.{some_same, none_some, among_one, same_self, by_value, by_place, fraction_same, whole_positive, nothing_bound, name_bound, sorted, call_fixed, fixed_stored}
@@ -69,15 +69,18 @@ back = shared_row again (PointerSum (symbol 0) none_at_all) left (Some (apply dr
 abbrev not_negative : Term → List Fact
 not_negative t = OfSort t Integers ∷ Holds (Compare LessEqual none_at_all t) ∷ []
 
+abbrev of_thread : Fact
+of_thread = OfSort (Variable CurrentThread) Integers
+
 abbrev first_path : List Fact
-first_path = OfSort (symbol 0) Pointers ∷ []
+first_path = OfSort (symbol 0) Pointers ∷ of_thread ∷ []
 
 abbrev path : List Fact
-path = OfSort (symbol 0) Pointers ∷ OfSort (symbol 1) Integers ∷ OfSort (symbol 2) numbers ∷ OfSort (symbol 1) Integers ∷ Holds (Compare LessEqual none_at_all (symbol 1)) ∷ []
+path = OfSort (symbol 0) Pointers ∷ of_thread ∷ OfSort (symbol 1) Integers ∷ OfSort (symbol 2) numbers ∷ OfSort (symbol 1) Integers ∷ Holds (Compare LessEqual none_at_all (symbol 1)) ∷ []
 
 abbrev last_path : List Fact
 last_path =
-    OfSort (symbol 0) Pointers ∷ OfSort (symbol 1) Integers ∷ OfSort (symbol 2) numbers ∷ OfSort (symbol 1) Integers ∷ Holds (Compare LessEqual none_at_all (symbol 1))
+    OfSort (symbol 0) Pointers ∷ of_thread ∷ OfSort (symbol 1) Integers ∷ OfSort (symbol 2) numbers ∷ OfSort (symbol 1) Integers ∷ Holds (Compare LessEqual none_at_all (symbol 1))
     ∷ OfSort none_at_all Integers ∷ Holds (Compare LessEqual none_at_all none_at_all) ∷ OfSort left Integers ∷ Holds (Compare LessEqual none_at_all left) ∷ []
 
 abbrev at_first : SymbolicState
@@ -103,7 +106,7 @@ new_long : IsNew 1 all_of_it names (Some share ∷ Some (symbol 0) ∷ []) at_fi
 new_long = new_symbol 1 all_of_it names (Some share ∷ Some (symbol 0) ∷ []) at_first (fresh_state 1 at_first (fresh_call 1 (symbol 0 ∷ []) refl) refl refl refl) (fresh_call 1 (symbol 0 ∷ []) refl) refl refl
 
 abbrev with_long : SymbolicState
-with_long = record { locals = []; names = names; chunks = []; path = OfSort (symbol 0) Pointers ∷ OfSort (symbol 1) Integers ∷ [] }
+with_long = record { locals = []; names = names; chunks = []; path = OfSort (symbol 0) Pointers ∷ of_thread ∷ OfSort (symbol 1) Integers ∷ [] }
 
 new_list : IsNew 2 all_of_it long_named (Some share ∷ Some (symbol 0) ∷ Some (symbol 1) ∷ []) with_long
 new_list =
@@ -113,7 +116,7 @@ new_list =
 -- ---- sorts
 -- a sort of the contracts has a value
 list_value : HasSort arrays (list_of []) numbers
-list_value = (refl, ([], refl, tt))
+list_value = ((refl, refl), ([], refl, tt))
 
 inhabited : AreInhabited arrays split_contract.sorts
 inhabited zero s is = (values.Null, subst (HasSort arrays values.Null) (some_same is) (inl refl))
@@ -228,7 +231,7 @@ ends =
 
 body : Proves arrays no_program lemmas split_none 0 [] begun
 body =
-    may_call_held {st = begun} ints_split passed (record { store = call_names; state = after_call } ∷ []) split_holds (λ leaks. absurd (never_leaks arrays (λ text. refl) leaks)) inhabited refl arguments_sorted (
+    may_call_held {st = begun} ints_split passed (record { store = call_names; state = after_call } ∷ []) split_holds (λ leaks. absurd (never_leaks arrays (λ text. refl) leaks)) inhabited refl arguments_sorted (by_place arrays path 1 of_thread refl) (
       nothing_bound (call_store passed),
       (
         begun,
@@ -248,16 +251,16 @@ body =
               same_self arrays path (symbol 0),
               (
                 refl,
-                (by_place arrays path 1 (OfSort (symbol 1) Integers) refl, tt),
+                (by_place arrays path 2 (OfSort (symbol 1) Integers) refl, tt),
                 (
                   refl,
-                  (by_place arrays path 2 (OfSort (symbol 2) numbers) refl, tt),
+                  (by_place arrays path 3 (OfSort (symbol 2) numbers) refl, tt),
                   (
                     right_bound call_names (Numbered 1) none_at_all refl,
                     record { by = λ v m. refl },
                     (
                       either_bound call_names (Numbered 1) (Numbered 3) none_at_all (symbol 1) refl refl,
-                      by_place arrays path 4 (Holds (Compare LessEqual none_at_all (symbol 1))) refl,
+                      by_place arrays path 5 (Holds (Compare LessEqual none_at_all (symbol 1))) refl,
                       (
                         fixed,
                         (

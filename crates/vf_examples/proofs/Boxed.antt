@@ -66,9 +66,10 @@ fresh : IsFresh 0 begun
 unfolding begun
 fresh = record { locals = λ u. u; names = fresh_in_names; chunks = λ u. u; path = λ u. no_use u }
   where
-    no_use : ⊥ ⊎ ⊥ → ⊥
-    no_use (inl u) = u
-    no_use (inr u) = u
+    no_use : (CurrentThread ≡ Numbered 0) ⊎ (⊥ ⊎ ⊥) → ⊥
+    no_use (inl u) = cc
+    no_use (inr (inl u)) = u
+    no_use (inr (inr u)) = u
 
 -- ---- returns
 keeps : (t : Term) → KeepsFixed box_contract (call_store []) (stored (call_store []) Result t)
@@ -99,13 +100,13 @@ unfolding with_null begun
 null_way =
     do_if Equal (core.Read 0 somewhere) core.Null 5 2 Null Null refl refl refl (inr (inr (record { by = λ v m. inl refl }))) (inr (inr (record { by = λ v m. inl refl })))
     (returns_seven 5 _ (core.Number (pos 7)) refl refl refl refl)
-    (may_drop (record { by = λ v m. not_both true refl (m.1).0 }))
+    (may_drop (record { by = λ v m. not_both true refl ((m.1).1).0 }))
 
 granted_way : Accepts box_environment box_program box_main box_contract [] [] 1 granted
 unfolding granted begun
 granted_way =
-    do_if Equal (core.Read 0 somewhere) core.Null 5 2 (symbol 0) Null refl refl refl (inr (inr (record { by = λ v m. (m.1).0 }))) (inr (inr (record { by = λ v m. inl refl })))
-    (may_drop (record { by = λ v m. not_both (is_same (v (Numbered 0)) values.Null) ((m.1).1.1).0 ((m.1).1).0 }))
+    do_if Equal (core.Read 0 somewhere) core.Null 5 2 (symbol 0) Null refl refl refl (inr (inr (record { by = λ v m. ((m.1).1).0 }))) (inr (inr (record { by = λ v m. inl refl })))
+    (may_drop (record { by = λ v m. not_both (is_same (v (Numbered 0)) values.Null) (((m.1).1).1.1).0 (((m.1).1).1).0 }))
     (do_store (core.Read 0 somewhere) (core.Number (pos 7)) content somewhere 3 (symbol 0) (symbol 0) (Number (pos 7)) None (cell_chunk content (symbol 0) None) (block_chunk box_name (symbol 0) ∷ []) refl refl refl
     (takes_all (equal_self _ all_of_it)) refl refl (equal_self _ (symbol 0)) (seven_fits _)
     (do_load 1 (core.Read 0 somewhere) content somewhere 4 (symbol 0) (symbol 0) (Number (pos 7)) (cell_chunk content (symbol 0) (Some (Number (pos 7)))) (block_chunk box_name (symbol 0) ∷ []) refl refl

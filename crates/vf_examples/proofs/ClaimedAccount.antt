@@ -1,5 +1,5 @@
 -- The function over an account is accepted, and keeps the contract of its type, which leaves open what the account holds: that it is a number is seen in the chunk.
-use Rattle.std.proofs.Common.{ℕ, zero, suc, pos, List, [], ◌∷◌, ◌++◌, Some, refl, subst, ◌∙◌, inl, inr, arith}
+use Rattle.std.proofs.Common.{ℕ, zero, suc, pos, List, [], ◌∷◌, ◌++◌, Some, refl, subst, ◌∙◌, inl, inr, arith, None}
 use Rattle.vf_tree.specs.Core as core
 use Rattle.vf_model.specs.Values.{Dyadic, Values}
 use Rattle.vf_model.specs.Values as values
@@ -11,7 +11,7 @@ use Rattle.vf_meaning.specs.Chunks.{Just, AllMeet}
 use Rattle.vf_meaning.specs.Satisfaction.{MeansAt}
 use Rattle.vf_meaning.specs.Assertions.{Named, Plain}
 use Rattle.vf_rules.specs.Terms.{Term, Store, stored}
-use Rattle.vf_rules.specs.States.{Fact, OfSort, Of, SymbolicChunk, SymbolicState, ChunksMean, Shows}
+use Rattle.vf_rules.specs.States.{Fact, OfSort, Of, SymbolicChunk, SymbolicState, ChunksMean, Shows, facts_of_thread}
 use Rattle.vf_rules.specs.Fresh.{symbol}
 use Rattle.vf_rules.specs.Take.{takes_all, no_change}
 use Rattle.vf_rules.specs.Accept.{all_of_it, call_store, pointer_store, beginning, HasContract, Accepts, do_return, IsAcceptedFunction}
@@ -32,7 +32,7 @@ account_there = record { share = written_share; head = Of (Named account); argum
 
 -- what is known of the parameter
 abbrev path0 : List Fact
-path0 = OfSort (symbol 0) Pointers ∷ OfSort (symbol 0) Pointers ∷ []
+path0 = OfSort (symbol 0) Pointers ∷ OfSort (symbol 0) Pointers ∷ facts_of_thread
 
 -- and that the account holds a number
 abbrev path1 : List Fact
@@ -163,7 +163,7 @@ stands_in = (
               same_self claiming_environment path1 (symbol 0),
               (
                 refl,
-                (by_place claiming_environment path1 2 (OfSort (symbol 1) Integers) refl, tt),
+                (by_place claiming_environment path1 3 (OfSort (symbol 1) Integers) refl, tt),
                 (
                   2,
                   new_symbol 2 all_of_it own_store [] (claimed type_names [] path1) (fresh_state 2 (claimed type_names [] path1) (fresh_stored 2 (call_store arguments) This (Function audit_name) (fresh_call 2 arguments refl) refl) refl refl refl)
@@ -200,6 +200,8 @@ refines = record {
           1,
           new_symbol 1 all_of_it type_names (Some written_share ∷ Some (symbol 0) ∷ []) (before_claim audit auditor_contract) (fresh_state 1 (before_claim audit auditor_contract) (fresh_call 1 arguments refl) refl refl refl)
               (fresh_stored 1 (call_store arguments) This (Function audit_name) (fresh_call 1 arguments refl) refl) refl refl,
+          None,
+          tt,
           inl (refl, refl),
         ),
       ),

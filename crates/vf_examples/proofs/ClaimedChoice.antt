@@ -6,7 +6,7 @@ use Rattle.vf_tree.specs.Core as core
 use Rattle.vf_meaning.specs.Ghost.{Integers, Pointers, Numbered, Result, This, Null, Function, Compare, Not, Or}
 use Rattle.vf_meaning.specs.Valuations.{is_same}
 use Rattle.vf_rules.specs.Terms.{Term, Store, stored}
-use Rattle.vf_rules.specs.States.{Fact, Holds, OfSort, CellOf, SymbolicChunk, SymbolicState, Entails}
+use Rattle.vf_rules.specs.States.{Fact, Holds, OfSort, CellOf, SymbolicChunk, SymbolicState, Entails, facts_of_thread}
 use Rattle.vf_rules.specs.Fresh.{symbol, IsFreshIn}
 use Rattle.vf_rules.specs.Take.{same, takes_all, takes_later, removes_here, no_change}
 use Rattle.vf_rules.specs.Laws.{Grows}
@@ -34,7 +34,7 @@ cell_facts pointer content = Holds (Compare NotEqual pointer Null) ∷ int_facts
 
 -- what is known of the parameters
 abbrev path0 : List Fact
-path0 = OfSort (symbol 0) Pointers ∷ OfSort (symbol 1) Pointers ∷ OfSort (symbol 2) Pointers ∷ OfSort (symbol 0) Pointers ∷ OfSort (symbol 1) Pointers ∷ OfSort (symbol 2) Pointers ∷ []
+path0 = OfSort (symbol 0) Pointers ∷ OfSort (symbol 1) Pointers ∷ OfSort (symbol 2) Pointers ∷ OfSort (symbol 0) Pointers ∷ OfSort (symbol 1) Pointers ∷ OfSort (symbol 2) Pointers ∷ facts_of_thread
 
 -- ---- the body
 abbrev body_path : List Fact
@@ -55,7 +55,7 @@ loaded = record { locals = Some (symbol 0) ∷ Some (symbol 1) ∷ Some (symbol 
 returns : Accepts claiming_environment claiming_program read read_contract [] [] 1 loaded
 returns =
     do_return {now = []} {soon = []} {n = 1} {st = loaded} (core.Read 3 somewhere) (symbol 3) refl refl
-    (by_place claiming_environment body_path 8 _ refl, (by_place claiming_environment body_path 9 _ refl, (by_place claiming_environment body_path 10 _ refl, tt))) integer_is_no_void (
+    (by_place claiming_environment body_path 9 _ refl, (by_place claiming_environment body_path 10 _ refl, (by_place claiming_environment body_path 11 _ refl, tt))) integer_is_no_void (
       name_bound (stored (own_store (symbol 3)) Result (symbol 3)) (Numbered 0) (symbol 0) refl,
       (
         loaded,
@@ -176,7 +176,7 @@ ended_first = (
               symbol 0,
               Some (symbol 3),
               refl,
-              turned (end_of yes_path (symbol 3)) (symbol 0) (symbol 1) (by_place claiming_environment (end_of yes_path (symbol 3)) 17 (same (symbol 0) (symbol 1)) refl),
+              turned (end_of yes_path (symbol 3)) (symbol 0) (symbol 1) (by_place claiming_environment (end_of yes_path (symbol 3)) 18 (same (symbol 0) (symbol 1)) refl),
               (
                 name_bound end_names (Numbered 3) (symbol 3) refl,
                 same_self claiming_environment (end_of yes_path (symbol 3)) (symbol 3),
@@ -235,10 +235,10 @@ first_stands_in = (
               symbol 1,
               Some (symbol 3),
               refl,
-              by_place claiming_environment yes_path 17 (same (symbol 0) (symbol 1)) refl,
+              by_place claiming_environment yes_path 18 (same (symbol 0) (symbol 1)) refl,
               (
                 refl,
-                (by_place claiming_environment yes_path 7 (OfSort (symbol 3) Integers) refl, tt),
+                (by_place claiming_environment yes_path 8 (OfSort (symbol 3) Integers) refl, tt),
                 (
                   5,
                   new_symbol 5 all_of_it (own_store (symbol 3)) [] (claimed names (cell (symbol 2) (symbol 4) ∷ []) yes_path) (fresh_state 5 (claimed names (cell (symbol 2) (symbol 4) ∷ []) yes_path) fresh_names refl refl refl)
@@ -311,7 +311,7 @@ ended_second = (
                             symbol 0,
                             Some (symbol 4),
                             refl,
-                            turned no_end (symbol 0) (symbol 2) (is_second no_end (by_place claiming_environment no_end 6 _ refl) (by_place claiming_environment no_end 17 _ refl)),
+                            turned no_end (symbol 0) (symbol 2) (is_second no_end (by_place claiming_environment no_end 7 _ refl) (by_place claiming_environment no_end 18 _ refl)),
                             (name_bound end_names (Numbered 4) (symbol 4) refl, same_self claiming_environment no_end (symbol 4), (refl, λ x t fixed is. is)),
                           ),
                         ),
@@ -349,10 +349,10 @@ second_stands_in = (
               symbol 2,
               Some (symbol 4),
               refl,
-              is_second no_path (by_place claiming_environment no_path 6 _ refl) (by_place claiming_environment no_path 17 _ refl),
+              is_second no_path (by_place claiming_environment no_path 7 _ refl) (by_place claiming_environment no_path 18 _ refl),
               (
                 refl,
-                (by_place claiming_environment no_path 12 (OfSort (symbol 4) Integers) refl, tt),
+                (by_place claiming_environment no_path 13 (OfSort (symbol 4) Integers) refl, tt),
                 (
                   5,
                   new_symbol 5 all_of_it (own_store (symbol 4)) [] (claimed names (cell (symbol 1) (symbol 3) ∷ []) no_path) (fresh_state 5 (claimed names (cell (symbol 1) (symbol 3) ∷ []) no_path) fresh_names refl refl refl)

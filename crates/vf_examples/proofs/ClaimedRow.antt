@@ -1,10 +1,10 @@
 -- The function that returns the length of a row is accepted, and keeps the contract of its type: that the length is not negative is known of the row.
 use Rattle.std.proofs.Common.{List, [], ◌∷◌, ◌++◌, Some, refl, inl, inr, arith}
 use Rattle.vf_tree.specs.Core as core
-use Rattle.vf_meaning.specs.Ghost.{Integers, Pointers, Datatype, Numbered, Result, This, Function}
+use Rattle.vf_meaning.specs.Ghost.{Integers, Pointers, Datatype, none, Numbered, Result, This, Function}
 use Rattle.vf_meaning.specs.Assertions.{Named}
 use Rattle.vf_rules.specs.Terms.{Term, Store, stored}
-use Rattle.vf_rules.specs.States.{Fact, Holds, OfSort, Of, SymbolicChunk, SymbolicState}
+use Rattle.vf_rules.specs.States.{Fact, Holds, OfSort, Of, SymbolicChunk, SymbolicState, facts_of_thread}
 use Rattle.vf_rules.specs.Fresh.{symbol}
 use Rattle.vf_rules.specs.Take.{takes_all, no_change}
 use Rattle.vf_rules.specs.Laws.{Grows}
@@ -24,7 +24,7 @@ arguments = symbol 0 ∷ symbol 1 ∷ []
 
 -- what is known of the parameters
 abbrev path0 : List Fact
-path0 = OfSort (symbol 0) Pointers ∷ int_facts (symbol 1) ++ OfSort (symbol 0) Pointers ∷ OfSort (symbol 1) Integers ∷ []
+path0 = OfSort (symbol 0) Pointers ∷ int_facts (symbol 1) ++ OfSort (symbol 0) Pointers ∷ OfSort (symbol 1) Integers ∷ facts_of_thread
 
 -- ---- the body
 abbrev path1 : List Fact
@@ -37,7 +37,7 @@ returns : Accepts claiming_environment claiming_program count count_contract [] 
 returns =
     do_return {now = []} {soon = []} {n = 0} {st = begun} (core.Read 1 somewhere) (symbol 1) refl refl
     (by_place claiming_environment path1 1 _ refl, (by_place claiming_environment path1 2 _ refl, (by_place claiming_environment path1 3 _ refl, tt))) integer_is_no_void
-    (second_bound (stored (call_store arguments) Result (symbol 1)) Result (symbol 1) refl, by_place claiming_environment path1 6 (Holds (not_negative (symbol 1))) refl, (refl, keeps_result count_contract (call_store arguments) (symbol 1)))
+    (second_bound (stored (call_store arguments) Result (symbol 1)) Result (symbol 1) refl, by_place claiming_environment path1 7 (Holds (not_negative (symbol 1))) refl, (refl, keeps_result count_contract (call_store arguments) (symbol 1)))
 
 pub count_has : HasContract claiming_environment count count_contract
 count_has = record { known = inl refl; parameters = refl; fewer = omega arith; inhabited = plain_inhabited count_contract.sorts (tt, (tt, tt)) }
@@ -62,7 +62,7 @@ names = stored type_names (Numbered 2) (symbol 2)
 
 -- with the row's list, then with its length, then with what is returned
 abbrev claim_path : List Fact
-claim_path = path0 ++ OfSort (symbol 2) (Datatype ints_list) ∷ []
+claim_path = path0 ++ OfSort (symbol 2) (Datatype ints_list none) ∷ []
 
 abbrev known_path : List Fact
 known_path = claim_path ++ OfSort (symbol 1) Integers ∷ Holds (not_negative (symbol 1)) ∷ []
@@ -99,7 +99,7 @@ ended = (
                 (
                   name_bound (stored names Result (symbol 3)) (Numbered 2) (symbol 2) refl,
                   same_self claiming_environment end_path (symbol 2),
-                  (second_bound (stored names Result (symbol 3)) Result (symbol 3) refl, by_place claiming_environment end_path 12 (Holds (not_negative (symbol 3))) refl, (refl, λ x t fixed is. is)),
+                  (second_bound (stored names Result (symbol 3)) Result (symbol 3) refl, by_place claiming_environment end_path 13 (Holds (not_negative (symbol 3))) refl, (refl, λ x t fixed is. is)),
                 ),
               ),
             ),
@@ -116,7 +116,7 @@ stands_in = (
   sorted claiming_environment known_path count_contract.sorts arguments (by_place claiming_environment known_path 0 (OfSort (symbol 0) Pointers) refl, (by_place claiming_environment known_path 5 (OfSort (symbol 1) Integers) refl, tt)),
   (
     second_bound (call_store arguments) (Numbered 1) (symbol 1) refl,
-    by_place claiming_environment known_path 8 (Holds (not_negative (symbol 1))) refl,
+    by_place claiming_environment known_path 9 (Holds (not_negative (symbol 1))) refl,
     (
       3,
       new_symbol 3 all_of_it (call_store arguments) [] (claimed names (row_there ∷ []) known_path)

@@ -5,7 +5,7 @@ use Rattle.vf_tree.specs.Core.{Integer, LessEqual}
 use Rattle.vf_model.specs.Values.{Value}
 use Rattle.vf_model.specs.Values as values
 use Rattle.vf_model.specs.Integers.{least, greatest}
-use Rattle.vf_meaning.specs.Ghost.{Sort, Integers, Pointers, Truths, Fractions, Anything, Datatype, Predicates, Name, Numbered, Result, This, CurrentThread, Number, Compare}
+use Rattle.vf_meaning.specs.Ghost.{Sort, Integers, Pointers, Truths, Fractions, Anything, Parameter, Datatype, Predicates, Name, Numbered, Result, This, CurrentThread, Number, Compare}
 use Rattle.vf_meaning.specs.Sorts.{HasSort}
 use Rattle.vf_meaning.specs.Assertions.{ContractTree}
 use Rattle.vf_rules.specs.Terms.{Term, Store, stored}
@@ -66,7 +66,8 @@ witness Pointers h = (values.Null, inl refl)
 witness Truths h = absurd h
 witness Fractions h = absurd h
 witness Anything h = absurd h
-witness (Datatype d) h = absurd h
+witness (Parameter j) h = absurd h
+witness (Datatype d ts) h = absurd h
 witness (Predicates ss) h = absurd h
 
 abbrev pub ArePlain : List Sort → Type 0

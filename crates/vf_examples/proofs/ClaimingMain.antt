@@ -1,6 +1,6 @@
 -- The program of which three functions claim function types is accepted.
 use Rattle.std.specs.Prelude.{IsTrue, ◌&&◌}
-use Rattle.std.proofs.Common.{◌≡◌, zero, suc, pos, Bool, true, false, cond, List, [], ◌∷◌, Some, refl, sym, ap, subst, ◌∙◌, ◌⊎◌, inl, inr, arith}
+use Rattle.std.proofs.Common.{◌≡◌, zero, suc, pos, Bool, true, false, cond, List, [], ◌∷◌, Some, refl, sym, ap, subst, ◌∙◌, ◌⊎◌, inl, inr, arith, ◌++◌}
 use Rattle.std.proofs.lemmas.Bool.{false≢true}
 use Rattle.vf_tree.specs.Core.{Identity}
 use Rattle.vf_tree.specs.Core as core
@@ -9,7 +9,7 @@ use Rattle.vf_model.proofs.Equality.{identities_told}
 use Rattle.vf_meaning.specs.Ghost.{Result, Truth, Number}
 use Rattle.vf_meaning.specs.Assertions.{ContractTree}
 use Rattle.vf_rules.specs.Terms.{stored}
-use Rattle.vf_rules.specs.States.{Fact, Holds, SymbolicState}
+use Rattle.vf_rules.specs.States.{Fact, Holds, SymbolicState, facts_of_thread}
 use Rattle.vf_rules.specs.Accept.{call_store, HasContract, Accepts, do_return, IsAcceptedFunction}
 use Rattle.vf_rules.specs.GhostSteps.{no_step}
 use Rattle.vf_rules.specs.Claims.{KeepsClaim}
@@ -25,7 +25,7 @@ use Rattle.vf_examples.proofs.Defined.{only_defined}
 
 -- ---- main
 abbrev path : List Fact
-path = Holds (Truth true) ∷ []
+path = facts_of_thread ++ Holds (Truth true) ∷ []
 
 abbrev begun : SymbolicState
 begun = record { locals = []; names = call_store []; chunks = []; path = path }

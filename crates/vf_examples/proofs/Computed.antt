@@ -33,7 +33,7 @@ length_named = codes "one.c#length"
 length_of_list : FixpointTree
 length_of_list = record {
   identity = length_named;
-  parameters = ghost.Datatype (codes "one.c#list") ∷ [];
+  parameters = ghost.Datatype (codes "one.c#list") ghost.none ∷ [];
   result = ghost.Integers;
   body = Switches 0 (record { constructor = nil_named; names = []; result = ghost.Number (pos 0) }
       ∷ record {

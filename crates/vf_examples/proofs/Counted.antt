@@ -335,7 +335,7 @@ body : Accepts counting_environment counting_program counting_main seven_contrac
 unfolding begun loop loop_path
 body =
     do_set 0 (core.Number (pos 0)) 1 (Number (pos 0)) refl refl
-    (may_enter loop refl is_loop (comes (Number (pos 0)) (with_local begun 0 (Number (pos 0))) refl refl refl (number_facts _ 0 refl refl) (record { by = λ v m. refl }) (record { by = λ v m. m.0 }, tt))
+    (may_enter loop refl is_loop (comes (Number (pos 0)) (with_local begun 0 (Number (pos 0))) refl refl refl (number_facts _ 0 refl refl) (record { by = λ v m. refl }) (record { by = λ v m. (m.1).0 }, tt))
     (λ s su among. among_one (λ s su. Accepts counting_environment counting_program counting_main seven_contract [] (loop ∷ []) 1 su) loop_store head at_head s su among))
 
 -- ---- the program
@@ -391,16 +391,17 @@ kept_first = no_step (
         inr (no_step (
           symbol 0,
           stored_own (pointer_store [] (Function seven_name)) Result (symbol 0),
-          (result_bound (pointer_store [] (Function seven_name)) (symbol 0), record { by = λ v m. ((((m.1).1).1).1).0 }, (refl, λ x t fixed is. is)),
+          (result_bound (pointer_store [] (Function seven_name)) (symbol 0), record { by = λ v m. (((((m.1).1).1).1).1).0 }, (refl, λ x t fixed is. is)),
         )),
       ),
     ),
   ),
 )
   where
-    no_use : ⊥ ⊎ ⊥ → ⊥
-    no_use (inl u) = u
-    no_use (inr u) = u
+    no_use : (CurrentThread ≡ Numbered 0) ⊎ (⊥ ⊎ ⊥) → ⊥
+    no_use (inl u) = cc
+    no_use (inr (inl u)) = u
+    no_use (inr (inr u)) = u
 
 refines : RefinesType counting_environment counting_program seven seven_contract seven_contract seven_name
 unfolding before

@@ -108,7 +108,7 @@ closes_guarded path locals cs ds content pointer takes = record {
   arguments = symbol 0 ∷ [];
   number = refl;
   of_sorts = sorted everything_environment path (Pointers ∷ []) (symbol 0 ∷ []) (pointer, tt);
-  inhabited = inhabited everything_environment refl (Pointers ∷ []) (tt, tt);
+  inhabited = inhabited everything_environment (inr refl) (Pointers ∷ []) (tt, tt);
   consumed = (
     name_bound (store_of (symbol 0 ∷ [])) (Numbered 0) (symbol 0) refl,
     (
@@ -138,7 +138,7 @@ disposes_it : Goes 10 (at three_locals path7 (block ∷ cell_all ∷ mutex_all �
 disposes_it =
     do_prelude None (identity_of MutexDispose) (core.Read 1 somewhere ∷ []) somewhere 11 MutexDispose disposal (symbol 1 ∷ [])
     (record { store = stored dispose_store Result (symbol 7); state = at three_locals path7 (block ∷ cell_all ∷ applied_chunk written_share q ∷ []) } ∷ [])
-    refl refl disposes refl (inhabited everything_environment refl disposal.sorts (tt, (tt, tt))) (λ h. refl) (refl, tt) refl (sorted everything_environment path7 disposal.sorts (symbol 1 ∷ []) (by_place everything_environment path7 4 (OfSort (symbol 1) Pointers) refl, tt)) (
+    refl refl disposes refl (inhabited everything_environment (inr refl) disposal.sorts (tt, (tt, tt))) (λ h. refl) (refl, tt) refl (sorted everything_environment path7 disposal.sorts (symbol 1 ∷ []) (by_place everything_environment path7 5 (OfSort (symbol 1) Pointers) refl, tt)) (
       nothing_bound (call_store (symbol 1 ∷ [])),
       (
         at three_locals path7 (block ∷ cell_all ∷ mutex_all ∷ []),
@@ -156,7 +156,7 @@ disposes_it =
                 same_self everything_environment path7 (symbol 1),
                 (
                   refl,
-                  (guarded_sorted everything_environment refl path7 (symbol 0) (by_place everything_environment path7 1 (OfSort (symbol 0) Pointers) refl), tt),
+                  (guarded_sorted everything_environment (inr refl) path7 (symbol 0) (by_place everything_environment path7 2 (OfSort (symbol 0) Pointers) refl), tt),
                   (
                     7,
                     new_symbol 7 all_of_it dispose_store [] (at three_locals path7 (block ∷ cell_all ∷ [])) (fresh_state 7 (at three_locals path7 (block ∷ cell_all ∷ [])) (fresh 7) refl refl refl) (fresh_stored 7 (call_store (symbol 1 ∷ [])) (Numbered 1) q (fresh_call 7 (symbol 1 ∷ []) refl) refl) refl refl,
@@ -209,7 +209,7 @@ joins_mutexes = record {
   one_head = refl;
   arguments = refl;
   further = refl;
-  one_place = by_place everything_environment path6 10 (same (symbol 1) (symbol 6)) refl;
+  one_place = by_place everything_environment path6 11 (same (symbol 1) (symbol 6)) refl;
   total = all_of_it;
   sums = halves_sum path6 (Share all_of_it (Share (Fraction whole) half_left)) (half_at written_share) (λ v. refl) (λ v. refl);
   both_is = refl;
@@ -280,7 +280,7 @@ pub joins_it : Goes 9 (at three_locals path4 (block ∷ cell_half ∷ thread_chu
 joins_it =
     do_prelude None (identity_of ThreadJoin) (core.Read 2 somewhere ∷ []) somewhere 10 ThreadJoin join (symbol 2 ∷ [])
     (record { store = stored join_store Result (symbol 5); state = at three_locals path4 (block ∷ cell_half ∷ mutex_back ∷ post_chunk written_share (symbol 0) info ∷ []) } ∷ [])
-    refl refl joins refl (inhabited everything_environment refl join.sorts (tt, (tt, (tt, (tt, tt))))) (λ h. refl) (refl, tt) refl (sorted everything_environment path4 join.sorts (symbol 2 ∷ []) (by_place everything_environment path4 5 (OfSort (symbol 2) Pointers) refl, tt)) (
+    refl refl joins refl (inhabited everything_environment (inr refl) join.sorts (tt, (tt, (tt, (tt, tt))))) (λ h. refl) (refl, tt) refl (sorted everything_environment path4 join.sorts (symbol 2 ∷ []) (by_place everything_environment path4 6 (OfSort (symbol 2) Pointers) refl, tt)) (
       nothing_bound (call_store (symbol 2 ∷ [])),
       (
         at three_locals path4 (block ∷ cell_half ∷ thread_chunk ∷ mutex_back ∷ []),
@@ -301,7 +301,7 @@ joins_it =
                   (function_sorted path4, tt),
                   (
                     refl,
-                    (by_place everything_environment path4 1 (OfSort (symbol 0) Pointers) refl, tt),
+                    (by_place everything_environment path4 2 (OfSort (symbol 0) Pointers) refl, tt),
                     (
                       refl,
                       (info_sorted path4, tt),

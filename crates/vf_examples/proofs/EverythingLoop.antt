@@ -114,7 +114,7 @@ is_loop : IsLoop everything_environment everything_program loop
 is_loop = record {
   fresh = λ j c is. record { names = fresh c.number; kept = λ u. u; path = λ u. u };
   distinct = λ i j c d a b same. sym (number_at i c a) ∙ same ∙ number_at j d b;
-  inhabited = inhabited everything_environment refl (Pointers ∷ []) (tt, tt);
+  inhabited = inhabited everything_environment (inr refl) (Pointers ∷ []) (tt, tt);
   produced = (nothing_bound (store_of (symbol 0 ∷ [])), (tt, (name_bound (store_of (symbol 0 ∷ [])) (Numbered 0) (symbol 0) refl, inl (refl, refl))));
 }
 
@@ -270,7 +270,7 @@ closes_node = record {
   arguments = symbol 2 ∷ [];
   number = refl;
   of_sorts = sorted everything_environment node_path (Pointers ∷ Pointers ∷ []) (symbol 2 ∷ []) (by_place everything_environment node_path 5 (OfSort (symbol 2) Pointers) refl, tt);
-  inhabited = inhabited everything_environment refl (Pointers ∷ Pointers ∷ []) (tt, (tt, tt));
+  inhabited = inhabited everything_environment (inr refl) (Pointers ∷ Pointers ∷ []) (tt, (tt, tt));
   consumed = (
     first_bound node_store (Numbered 0) (symbol 2) refl,
     inl (record { by = λ v m. not_both (is_same (v (Numbered 2)) values.Null) (last_met v node_path (Holds (Compare Equal (symbol 2) Null)) m) m.1.1.1.1.1.1.1.0 }),
@@ -397,7 +397,7 @@ module _ (c m t : Option Term) (path : List Fact) where
     arguments = Null ∷ [];
     number = refl;
     of_sorts = sorted everything_environment path (Pointers ∷ Pointers ∷ []) (Null ∷ []) (null_sorted path, tt);
-    inhabited = inhabited everything_environment refl (Pointers ∷ Pointers ∷ []) (tt, (tt, tt));
+    inhabited = inhabited everything_environment (inr refl) (Pointers ∷ Pointers ∷ []) (tt, (tt, tt));
     consumed = (
       first_bound (store_of (Null ∷ [])) (Numbered 0) Null refl,
       inr (inl (refl, refl)),

@@ -9,7 +9,7 @@ use Rattle.vf_model.specs.Values as values
 use Rattle.vf_model.specs.PreludeFunctions.{Abort, ThreadStartJoinable, CreateMutex, MutexAcquire, MutexRelease, identity_of, run_signature}
 use Rattle.vf_model.proofs.Equality.{identities_told}
 use Rattle.vf_meaning.specs.Fractions.{whole}
-use Rattle.vf_meaning.specs.Ghost.{Pointers, Anything, Numbered, Result, CurrentThread, Variable, Null, Number, Truth, Function, Fraction, Share, Compare}
+use Rattle.vf_meaning.specs.Ghost.{Pointers, Anything, Numbered, Result, CurrentThread, Variable, Null, Number, Truth, Function, Fraction, Share, Compare, Integers}
 use Rattle.vf_meaning.specs.Valuations.{is_same}
 use Rattle.vf_meaning.specs.Assertions.{ContractTree, Named, Plain, Instance}
 use Rattle.vf_rules.specs.Terms.{Term, Store, stored}
@@ -55,7 +55,7 @@ releases_it : Goes 8 (at three_locals path4 (block ∷ cell_half ∷ thread_chun
 releases_it =
     do_prelude None (identity_of MutexRelease) (core.Read 1 somewhere ∷ []) somewhere 9 MutexRelease release (symbol 1 ∷ [])
     (record { store = stored release_store Result (symbol 4); state = at three_locals path4 (block ∷ cell_half ∷ thread_chunk ∷ mutex_back ∷ []) } ∷ [])
-    refl refl releases refl (inhabited everything_environment refl release.sorts (tt, (tt, (tt, tt)))) (λ h. refl) (refl, tt) refl (sorted everything_environment path4 release.sorts (symbol 1 ∷ []) (by_place everything_environment path4 4 (OfSort (symbol 1) Pointers) refl, tt)) (
+    refl refl releases refl (inhabited everything_environment (inr refl) release.sorts (tt, (tt, (tt, tt)))) (λ h. refl) (refl, tt) refl (sorted everything_environment path4 release.sorts (symbol 1 ∷ []) (by_place everything_environment path4 5 (OfSort (symbol 1) Pointers) refl, tt)) (
       nothing_bound (call_store (symbol 1 ∷ [])),
       (
         at three_locals path4 (block ∷ cell_half ∷ thread_chunk ∷ held ∷ guarded_chunk all_of_it (symbol 0) ∷ []),
@@ -73,7 +73,7 @@ releases_it =
                 same_self everything_environment path4 (symbol 1),
                 (
                   refl,
-                  (guarded_sorted everything_environment refl path4 (symbol 0) (by_place everything_environment path4 1 (OfSort (symbol 0) Pointers) refl), tt),
+                  (guarded_sorted everything_environment (inr refl) path4 (symbol 0) (by_place everything_environment path4 2 (OfSort (symbol 0) Pointers) refl), tt),
                   (
                     name_bound (stored (call_store (symbol 1 ∷ [])) (Numbered 1) q) CurrentThread (Variable CurrentThread) refl,
                     same_self everything_environment path4 (Variable CurrentThread),
@@ -121,7 +121,7 @@ number_fits path type is = subst (λ z. EntailsAll everything_environment path (
 
 closes_it : Goes 8 (at three_locals path4 (block ∷ cell_half ∷ thread_chunk ∷ held ∷ cell_chunk count_field (symbol 0) (Some (Number (pos 5))) ∷ []))
 closes_it =
-    closed_so 8 path4 three_locals (block ∷ cell_half ∷ thread_chunk ∷ held ∷ cell_chunk count_field (symbol 0) (Some (Number (pos 5))) ∷ []) (block ∷ cell_half ∷ thread_chunk ∷ held ∷ []) (Some (Number (pos 5))) (by_place everything_environment path4 1 (OfSort (symbol 0) Pointers) refl)
+    closed_so 8 path4 three_locals (block ∷ cell_half ∷ thread_chunk ∷ held ∷ cell_chunk count_field (symbol 0) (Some (Number (pos 5))) ∷ []) (block ∷ cell_half ∷ thread_chunk ∷ held ∷ []) (Some (Number (pos 5))) (by_place everything_environment path4 2 (OfSort (symbol 0) Pointers) refl)
     (takes_last path4 written_share (cell_chunk count_field (symbol 0) (Some (Number (pos 5)))) (block ∷ cell_half ∷ thread_chunk ∷ held ∷ []) (by_value everything_environment path4 written_share all_of_it (λ v. refl))) releases_it
 
 writes : Goes 7 (at three_locals path4 (block ∷ cell_half ∷ thread_chunk ∷ held ∷ opened_cell ∷ []))
@@ -152,7 +152,7 @@ acquires_it : Goes 6 (at three_locals path3 (block ∷ mutex_half ∷ cell_half 
 acquires_it =
     do_prelude None (identity_of MutexAcquire) (core.Read 1 somewhere ∷ []) somewhere 7 MutexAcquire acquisition (symbol 1 ∷ [])
     (record { store = stored acquire_store Result (symbol 3); state = at three_locals path3 (block ∷ cell_half ∷ thread_chunk ∷ held ∷ applied_chunk written_share q ∷ []) } ∷ [])
-    refl refl acquires refl (inhabited everything_environment refl acquisition.sorts (tt, (tt, (tt, tt)))) (λ h. refl) (refl, tt) refl (sorted everything_environment path3 acquisition.sorts (symbol 1 ∷ []) (by_place everything_environment path3 4 (OfSort (symbol 1) Pointers) refl, tt)) (
+    refl refl acquires refl (inhabited everything_environment (inr refl) acquisition.sorts (tt, (tt, (tt, tt)))) (λ h. refl) (refl, tt) refl (sorted everything_environment path3 acquisition.sorts (symbol 1 ∷ []) (by_place everything_environment path3 5 (OfSort (symbol 1) Pointers) refl, tt)) (
       nothing_bound (call_store (symbol 1 ∷ [])),
       (
         at three_locals path3 (block ∷ mutex_half ∷ cell_half ∷ thread_chunk ∷ []),
@@ -172,7 +172,7 @@ acquires_it =
               same_self everything_environment path3 (symbol 1),
               (
                 refl,
-                (guarded_sorted everything_environment refl path3 (symbol 0) (by_place everything_environment path3 1 (OfSort (symbol 0) Pointers) refl), tt),
+                (guarded_sorted everything_environment (inr refl) path3 (symbol 0) (by_place everything_environment path3 2 (OfSort (symbol 0) Pointers) refl), tt),
                 (
                   3,
                   new_symbol 3 all_of_it acquire_store [] (at three_locals path3 (block ∷ cell_half ∷ thread_chunk ∷ [])) (fresh_state 3 (at three_locals path3 (block ∷ cell_half ∷ thread_chunk ∷ [])) (fresh 3) refl refl refl) fresh_acquired refl refl,
@@ -232,8 +232,8 @@ starts_it : Goes 5 (at two_locals path2 (block ∷ mutex_half ∷ cell_half ∷ 
 starts_it =
     do_prelude (Some 2) (identity_of ThreadStartJoinable) (core.Function tick_name ∷ core.Read 0 somewhere ∷ []) somewhere 6 ThreadStartJoinable start_joinable start_terms
     (record { store = stored start_store Result (symbol 2); state = at three_locals path3 (block ∷ mutex_half ∷ cell_half ∷ thread_chunk ∷ []) } ∷ [])
-    refl refl (starts_joinable is_run_type) refl (inhabited everything_environment refl start_joinable.sorts (tt, (tt, (tt, tt)))) (λ h. absurd (pointer_no_void h)) (refl, (refl, tt)) refl
-    (sorted everything_environment path2 start_joinable.sorts start_terms (function_sorted path2, (by_place everything_environment path2 1 (OfSort (symbol 0) Pointers) refl, tt))) (
+    refl refl (starts_joinable is_run_type) refl (inhabited everything_environment (inr refl) start_joinable.sorts (tt, (tt, (tt, tt)))) (λ h. absurd (pointer_no_void h)) (refl, (refl, tt)) refl
+    (sorted everything_environment path2 start_joinable.sorts start_terms (function_sorted path2, (by_place everything_environment path2 2 (OfSort (symbol 0) Pointers) refl, tt))) (
       name_bound (call_store start_terms) (Numbered 0) (Function tick_name) refl,
       record { by = λ v m. refl },
       (
@@ -291,8 +291,8 @@ closes_pre = record {
   there = refl;
   arguments = symbol 0 ∷ info ∷ [];
   number = refl;
-  of_sorts = sorted everything_environment path2 (Pointers ∷ Anything ∷ Pointers ∷ []) (symbol 0 ∷ info ∷ []) (by_place everything_environment path2 1 (OfSort (symbol 0) Pointers) refl, (info_sorted path2, tt));
-  inhabited = inhabited everything_environment refl (Pointers ∷ Anything ∷ Pointers ∷ []) (tt, (tt, (tt, tt)));
+  of_sorts = sorted everything_environment path2 (Pointers ∷ Anything ∷ Pointers ∷ []) (symbol 0 ∷ info ∷ []) (by_place everything_environment path2 2 (OfSort (symbol 0) Pointers) refl, (info_sorted path2, tt));
+  inhabited = inhabited everything_environment (inr refl) (Pointers ∷ Anything ∷ Pointers ∷ []) (tt, (tt, (tt, tt)));
   consumed = (
     name_bound (store_of (symbol 0 ∷ info ∷ [])) (Numbered 0) (symbol 0) refl,
     (
@@ -313,7 +313,7 @@ closes_pre = record {
               same_self everything_environment path2 (symbol 0),
               (
                 refl,
-                (by_place everything_environment path2 4 (OfSort (symbol 1) Pointers) refl, tt),
+                (by_place everything_environment path2 5 (OfSort (symbol 1) Pointers) refl, tt),
                 (
                   nothing_bound pre_store,
                   (
@@ -345,7 +345,7 @@ closed_pre = may_close (record { store = pre_store; state = at two_locals path2 
 
 -- ---- the mutex is created
 pointer_fits : (type : TypeTree) → type_of_field everything_program counter_name 1 ≡ Some type → EntailsAll everything_environment path2 (facts_of_type type (symbol 1)) × (type ≢ Void)
-pointer_fits type is = subst (λ z. EntailsAll everything_environment path2 (facts_of_type z (symbol 1)) × (z ≢ Void)) (some_same is) ((by_place everything_environment path2 4 (OfSort (symbol 1) Pointers) refl, tt), λ h. pointer_no_void h)
+pointer_fits type is = subst (λ z. EntailsAll everything_environment path2 (facts_of_type z (symbol 1)) × (z ≢ Void)) (some_same is) ((by_place everything_environment path2 5 (OfSort (symbol 1) Pointers) refl, tt), λ h. pointer_no_void h)
 
 stores_mutex : Goes 4 (at two_locals path2 (cell_chunk mutex_field (symbol 0) None ∷ block ∷ mutex_new ∷ []))
 stores_mutex =
@@ -364,7 +364,7 @@ new_cell = cell_chunk mutex_field (symbol 0) None
 creates_it : Goes 3 (at one_local path1 (new_cell ∷ block ∷ guarded_chunk all_of_it (symbol 0) ∷ arg_chunk ∷ []))
 creates_it =
     do_prelude (Some 1) (identity_of CreateMutex) [] somewhere 4 CreateMutex creation [] (record { store = stored create_store Result (symbol 1); state = at two_locals path2 (new_cell ∷ block ∷ mutex_new ∷ []) } ∷ [])
-    refl refl (creates refl) refl (inhabited everything_environment refl creation.sorts (tt, tt)) (λ h. absurd (pointer_no_void h)) tt refl (sorted everything_environment path1 creation.sorts [] tt) (
+    refl refl (creates refl) refl (inhabited everything_environment (inr refl) creation.sorts (tt, tt)) (λ h. absurd (pointer_no_void h)) tt refl (sorted everything_environment path1 creation.sorts [] tt) (
       nothing_bound (call_store []),
       (
         at one_local path1 (new_cell ∷ block ∷ guarded_chunk all_of_it (symbol 0) ∷ arg_chunk ∷ []),
@@ -379,7 +379,7 @@ creates_it =
               refl,
               (
                 refl,
-                (guarded_sorted everything_environment refl path1 (symbol 0) (by_place everything_environment path1 1 (OfSort (symbol 0) Pointers) refl), tt),
+                (guarded_sorted everything_environment (inr refl) path1 (symbol 0) (by_place everything_environment path1 2 (OfSort (symbol 0) Pointers) refl), tt),
                 (
                   name_bound create_store (Numbered 0) q refl,
                   (
@@ -422,8 +422,8 @@ closes_arg = record {
   there = refl;
   arguments = q ∷ [];
   number = refl;
-  of_sorts = sorted everything_environment path1 (invariants ∷ []) (q ∷ []) (guarded_sorted everything_environment refl path1 (symbol 0) (by_place everything_environment path1 1 (OfSort (symbol 0) Pointers) refl), tt);
-  inhabited = inhabited everything_environment refl (invariants ∷ []) (tt, tt);
+  of_sorts = sorted everything_environment path1 (invariants ∷ []) (q ∷ []) (guarded_sorted everything_environment (inr refl) path1 (symbol 0) (by_place everything_environment path1 2 (OfSort (symbol 0) Pointers) refl), tt);
+  inhabited = inhabited everything_environment (inr refl) (invariants ∷ []) (tt, tt);
   consumed = (nothing_bound (store_of (q ∷ [])), record { by = λ v m. refl }, inl (refl, refl));
 }
 
@@ -436,25 +436,29 @@ abbrev new_count : SymbolicChunk
 new_count = cell_chunk count_field (symbol 0) None
 
 with_struct : Goes 3 (at one_local path1 (new_count ∷ new_cell ∷ block ∷ []))
-with_struct = closed_so 3 path1 one_local (new_count ∷ new_cell ∷ block ∷ []) (new_cell ∷ block ∷ []) None (by_place everything_environment path1 1 (OfSort (symbol 0) Pointers) refl) (takes_all (by_value everything_environment path1 written_share all_of_it (λ v. refl))) closed_arg
+with_struct = closed_so 3 path1 one_local (new_count ∷ new_cell ∷ block ∷ []) (new_cell ∷ block ∷ []) None (by_place everything_environment path1 2 (OfSort (symbol 0) Pointers) refl) (takes_all (by_value everything_environment path1 written_share all_of_it (λ v. refl))) closed_arg
 
 not_both : (b : Bool) → b ≡ true → not b ≡ true → ⊥
 not_both b h k = false≢true (sym (ap not h) ∙ k)
 
-null_way : Goes 1 (at (Some Null ∷ None ∷ None ∷ None ∷ None ∷ None ∷ []) (Holds (Truth true) ∷ []) [])
+-- what is known at first
+abbrev first_path : List Fact
+first_path = OfSort (Variable CurrentThread) Integers ∷ Holds (Truth true) ∷ []
+
+null_way : Goes 1 (at (Some Null ∷ None ∷ None ∷ None ∷ None ∷ None ∷ []) first_path [])
 null_way =
     do_if core.Equal (core.Read 0 somewhere) core.Null 2 3 Null Null refl refl refl (inr (inr (record { by = λ v m. inl refl }))) (inr (inr (record { by = λ v m. inl refl })))
     (do_abort None (identity_of Abort) somewhere 3 refl refl)
-    (may_drop (record { by = λ v m. not_both true refl (m.1).0 }))
+    (may_drop (record { by = λ v m. not_both true refl ((m.1).1).0 }))
 
-granted_way : Goes 1 (at one_local (Holds (Truth true) ∷ OfSort (symbol 0) Pointers ∷ Holds (Compare core.NotEqual (symbol 0) Null) ∷ []) (new_count ∷ new_cell ∷ block ∷ []))
+granted_way : Goes 1 (at one_local (OfSort (Variable CurrentThread) Integers ∷ Holds (Truth true) ∷ OfSort (symbol 0) Pointers ∷ Holds (Compare core.NotEqual (symbol 0) Null) ∷ []) (new_count ∷ new_cell ∷ block ∷ []))
 granted_way =
-    do_if core.Equal (core.Read 0 somewhere) core.Null 2 3 (symbol 0) Null refl refl refl (inr (inr (record { by = λ v m. (m.1).0 }))) (inr (inr (record { by = λ v m. inl refl })))
-    (may_drop (record { by = λ v m. not_both (is_same (v (Numbered 0)) values.Null) ((m.1).1.1).0 ((m.1).1).0 }))
+    do_if core.Equal (core.Read 0 somewhere) core.Null 2 3 (symbol 0) Null refl refl refl (inr (inr (record { by = λ v m. ((m.1).1).0 }))) (inr (inr (record { by = λ v m. inl refl })))
+    (may_drop (record { by = λ v m. not_both (is_same (v (Numbered 0)) values.Null) (((m.1).1).1.1).0 (((m.1).1).1).0 }))
     with_struct
 
-body : Goes 0 (at (None ∷ None ∷ None ∷ None ∷ None ∷ None ∷ []) (Holds (Truth true) ∷ []) [])
-body = do_allocate 0 counter_name 1 0 refl (fresh_state 0 (at (None ∷ None ∷ None ∷ None ∷ None ∷ None ∷ []) (Holds (Truth true) ∷ []) []) (fresh 0) refl refl refl) null_way granted_way
+body : Goes 0 (at (None ∷ None ∷ None ∷ None ∷ None ∷ None ∷ []) first_path [])
+body = do_allocate 0 counter_name 1 0 refl (fresh_state 0 (at (None ∷ None ∷ None ∷ None ∷ None ∷ None ∷ []) first_path []) (fresh 0) refl refl refl) null_way granted_way
 
 -- ---- the program
 main_has : HasContract everything_environment everything_main box_contract
@@ -463,9 +467,9 @@ main_has = record { known = inl refl; parameters = refl; fewer = omega arith; in
 main_accepted : IsAcceptedFunction everything_environment everything_program everything_main box_contract
 main_accepted = record {
   contract = main_has;
-  outs = record { store = call_store []; state = at (None ∷ None ∷ None ∷ None ∷ None ∷ None ∷ []) (Holds (Truth true) ∷ []) [] } ∷ [];
+  outs = record { store = call_store []; state = at (None ∷ None ∷ None ∷ None ∷ None ∷ None ∷ []) first_path [] } ∷ [];
   produced = (nothing_bound (call_store []), inr (inl (refl, refl)));
-  body = λ s st among. among_one (λ s st. Goes 0 (record st { names = s })) (call_store []) (at (None ∷ None ∷ None ∷ None ∷ None ∷ None ∷ []) (Holds (Truth true) ∷ []) []) body s st among;
+  body = λ s st among. among_one (λ s st. Goes 0 (record st { names = s })) (call_store []) (at (None ∷ None ∷ None ∷ None ∷ None ∷ None ∷ []) first_path []) body s st among;
 }
 
 all_accepted : AreAccepted everything_environment everything_program

@@ -5,7 +5,7 @@ use Rattle.vf_tree.specs.Core.{Subtract, LessEqual}
 use Rattle.vf_model.specs.Values.{Dyadic, Value, number_of}
 use Rattle.vf_model.specs.Values as values
 use Rattle.vf_meaning.specs.Fractions.{whole, half, product, IsPositive}
-use Rattle.vf_meaning.specs.Ghost.{Name, Integers, Fractions, Numbered, Result, This, CurrentThread, Number, Compare, Not, Fraction, Share}
+use Rattle.vf_meaning.specs.Ghost.{Name, Integers, Fractions, Numbered, Result, This, CurrentThread, Number, Compare, Not, Fraction, Share, Variable}
 use Rattle.vf_meaning.specs.Valuations.{Valuation, is_same, fraction_in}
 use Rattle.vf_meaning.specs.GhostValues.{computed, shared}
 use Rattle.vf_meaning.specs.Sorts.{HasSort, AreOfSorts}
@@ -15,7 +15,7 @@ use Rattle.vf_meaning.specs.Chunks.{product_if, Just}
 use Rattle.vf_meaning.specs.Satisfaction.{IsShare, SatisfiesBody, MeansAt, SatisfiesAt}
 use Rattle.vf_meaning.proofs.Fractions.{product_commutes, stays_positive}
 use Rattle.vf_rules.specs.Terms.{Term, Store, stored}
-use Rattle.vf_rules.specs.States.{Fact, Holds, OfSort, Of, SymbolicChunk, SymbolicState, Meets, Entails, value_in}
+use Rattle.vf_rules.specs.States.{Fact, Holds, OfSort, Of, SymbolicChunk, SymbolicState, Meets, Entails, value_in, KnowsThread}
 use Rattle.vf_rules.specs.Fresh.{symbol, IsNew}
 use Rattle.vf_rules.specs.Mutexes.{full, name}
 use Rattle.vf_rules.specs.Take.{takes_all}
@@ -29,7 +29,7 @@ use Rattle.vf_lemmas.specs.Shares.{SplitsInto, ShareComesTo}
 use Rattle.vf_lemmas.specs.Proves.{Proves, may_end, may_open, may_split, may_put_back, may_split_aside, may_open_aside, may_call_inside, IsAcceptedLemma, with_first_aside}
 use Rattle.vf_lemmas.proofs.Asides.{neutral}
 use Rattle.vf_lemmas.proofs.Shares.{chunks_are_shared, named_shares_are_halved, opening_share_goes_lower}
-use Rattle.vf_examples.specs.TwoLemmas.{no_program}
+use Rattle.vf_examples.specs.SmallLemmas.{no_program}
 use Rattle.vf_examples.specs.Nesting.{nested, one_less, is_nested, nested_body, nesting}
 use Rattle.vf_examples.specs.Halving.{half_of_it, half_nested, shared_nested, twice, HalvingIsAccepted}
 use Rattle.vf_examples.proofs.Nested.{zero_term, less_term, not_below, not_both, zero_least, one_more, negated, nothing_in, refused}
@@ -51,7 +51,7 @@ abbrev at : List Fact → SymbolicState
 at path = record { locals = []; names = names; chunks = []; path = path }
 
 abbrev path : List Fact
-path = OfSort (symbol 0) Integers ∷ OfSort (symbol 1) Fractions ∷ []
+path = OfSort (symbol 0) Integers ∷ OfSort (Variable CurrentThread) Integers ∷ OfSort (symbol 1) Fractions ∷ []
 
 abbrev begun : SymbolicState
 begun = record { locals = []; names = first_names; chunks = []; path = path }
@@ -88,7 +88,7 @@ fraction_of_sort (values.Pointer b o) (inr h) = cc
 fraction_of_sort (values.Function g) (inl h) = cc
 fraction_of_sort (values.Function g) (inr h) = cc
 fraction_of_sort (values.Constructed c vs) h = absurd h.0
-fraction_of_sort (values.Predicate q vs) h = absurd h.1
+fraction_of_sort (values.Predicate q vs) h = absurd h.2
 
 -- half of a value that may be a fraction
 half_in : (w : Value) → fraction_in (shared (values.Fraction (half whole)) w) ≡ product_if (Some (half whole)) (fraction_in w)
@@ -125,6 +125,7 @@ of_sorts w h k (suc (suc i)) s is = none_some is
 -- the state is one of a number that is not 0
 record IsAbove (p : List Fact) : Type 0 where
   number : Entails nesting p (OfSort (symbol 0) Integers)
+  thread : KnowsThread nesting p
   fraction : Entails nesting p (OfSort (symbol 1) Fractions)
   other : Entails nesting p (Holds (Not zero_term))
 
@@ -227,27 +228,27 @@ above_step others free p above go =
     may_open_aside {others = others} {st = at p} one_half (Integers ∷ Fractions ∷ []) [] (half_nested one_less ∷ []) Empty (record { store = names; state = at p } ∷ []) takes_first
     (record { unbound = λ x c. absurd (nothing_in x c); unfixed = λ x c f. nothing_in x c; unsorted = λ k s c h. nothing_in (Numbered k) c }) free (opens_into p above) (inl (refl, refl))
     (among_one (λ s su. Proves nesting no_program lemmas twice 0 (within ∷ others) (record su { names = s })) names (at p) (
-    may_call_inside {others = others} {st = at p} within passed call_names (record { store = call_names; state = at (p ++ passed_fact ∷ []) } ∷ []) takes_first refl refl inhabited refl (is_first p above)
+    may_call_inside {others = others} {st = at p} within passed call_names (record { store = call_names; state = at (p ++ passed_fact ∷ []) } ∷ []) takes_first refl refl inhabited refl above.thread (is_first p above)
     (fixed, (less_bound, inr (inl (refl, refl))))
     (among_one (λ s su. Proves nesting no_program lemmas twice 0 others su) call_names (at (p ++ passed_fact ∷ [])) go)))
 
 abbrev above_path : List Fact
-above_path = OfSort (symbol 0) Integers ∷ OfSort (symbol 1) Fractions ∷ Holds (Not zero_term) ∷ []
+above_path = OfSort (symbol 0) Integers ∷ OfSort (Variable CurrentThread) Integers ∷ OfSort (symbol 1) Fractions ∷ Holds (Not zero_term) ∷ []
 
 abbrev called_path : List Fact
-called_path = OfSort (symbol 0) Integers ∷ OfSort (symbol 1) Fractions ∷ Holds (Not zero_term) ∷ passed_fact ∷ []
+called_path = OfSort (symbol 0) Integers ∷ OfSort (Variable CurrentThread) Integers ∷ OfSort (symbol 1) Fractions ∷ Holds (Not zero_term) ∷ passed_fact ∷ []
 
 abbrev twice_path : List Fact
-twice_path = OfSort (symbol 0) Integers ∷ OfSort (symbol 1) Fractions ∷ Holds (Not zero_term) ∷ passed_fact ∷ passed_fact ∷ []
+twice_path = OfSort (symbol 0) Integers ∷ OfSort (Variable CurrentThread) Integers ∷ OfSort (symbol 1) Fractions ∷ Holds (Not zero_term) ∷ passed_fact ∷ passed_fact ∷ []
 
 is_above : IsAbove above_path
-is_above = record { number = by_place nesting above_path 0 (OfSort (symbol 0) Integers) refl; fraction = by_place nesting above_path 1 (OfSort (symbol 1) Fractions) refl; other = by_place nesting above_path 2 (Holds (Not zero_term)) refl }
+is_above = record { number = by_place nesting above_path 0 (OfSort (symbol 0) Integers) refl; thread = by_place nesting above_path 1 (OfSort (Variable CurrentThread) Integers) refl; fraction = by_place nesting above_path 2 (OfSort (symbol 1) Fractions) refl; other = by_place nesting above_path 3 (Holds (Not zero_term)) refl }
 
 still_above : IsAbove called_path
-still_above = record { number = by_place nesting called_path 0 (OfSort (symbol 0) Integers) refl; fraction = by_place nesting called_path 1 (OfSort (symbol 1) Fractions) refl; other = by_place nesting called_path 2 (Holds (Not zero_term)) refl }
+still_above = record { number = by_place nesting called_path 0 (OfSort (symbol 0) Integers) refl; thread = by_place nesting called_path 1 (OfSort (Variable CurrentThread) Integers) refl; fraction = by_place nesting called_path 2 (OfSort (symbol 1) Fractions) refl; other = by_place nesting called_path 3 (Holds (Not zero_term)) refl }
 
 more_not_below : Entails nesting twice_path not_below
-more_not_below = record { by = λ v m. one_more (number_of (v (Numbered 0))) ((by_place nesting twice_path 3 passed_fact refl).by v m) }
+more_not_below = record { by = λ v m. one_more (number_of (v (Numbered 0))) ((by_place nesting twice_path 4 passed_fact refl).by v m) }
 
 above_way : Proves nesting no_program lemmas twice 0 (one_half ∷ one_half ∷ []) (at above_path)
 above_way = above_step (one_half ∷ []) ((λ x used c. nothing_in x c), tt) above_path is_above (above_step [] tt called_path still_above (ends twice_path more_not_below))
@@ -257,13 +258,13 @@ abbrev zero_fact : Fact
 zero_fact = Holds zero_term
 
 abbrev zero_path : List Fact
-zero_path = OfSort (symbol 0) Integers ∷ OfSort (symbol 1) Fractions ∷ zero_fact ∷ []
+zero_path = OfSort (symbol 0) Integers ∷ OfSort (Variable CurrentThread) Integers ∷ OfSort (symbol 1) Fractions ∷ zero_fact ∷ []
 
 abbrev opened_path : List Fact
-opened_path = OfSort (symbol 0) Integers ∷ OfSort (symbol 1) Fractions ∷ zero_fact ∷ zero_fact ∷ []
+opened_path = OfSort (symbol 0) Integers ∷ OfSort (Variable CurrentThread) Integers ∷ OfSort (symbol 1) Fractions ∷ zero_fact ∷ zero_fact ∷ []
 
 abbrev both_path : List Fact
-both_path = OfSort (symbol 0) Integers ∷ OfSort (symbol 1) Fractions ∷ zero_fact ∷ zero_fact ∷ zero_fact ∷ []
+both_path = OfSort (symbol 0) Integers ∷ OfSort (Variable CurrentThread) Integers ∷ OfSort (symbol 1) Fractions ∷ zero_fact ∷ zero_fact ∷ zero_fact ∷ []
 
 abbrev body_names : Store
 body_names = store_of (symbol 0 ∷ [])
@@ -294,13 +295,13 @@ zero_step others p new none is never go =
     (may_open {st = with_chunk p} (record { store = body_names; state = at new } ∷ []) (opens p new is never) (among_one (λ s su. Proves nesting no_program lemmas twice 0 others su) body_names (at new) go)))
 
 not_zero_path : (v : Valuation) → Meets nesting v (zero_path ++ Holds (Not zero_term) ∷ []) → ⊥
-not_zero_path v m = not_both (is_same (v (Numbered 0)) (values.Number (pos 0))) ((m.1).1).0 (((m.1).1).1).0
+not_zero_path v m = not_both (is_same (v (Numbered 0)) (values.Number (pos 0))) (((m.1).1).1).0 ((((m.1).1).1).1).0
 
 not_opened_path : (v : Valuation) → Meets nesting v (opened_path ++ Holds (Not zero_term) ∷ []) → ⊥
-not_opened_path v m = not_both (is_same (v (Numbered 0)) (values.Number (pos 0))) ((m.1).1).0 ((((m.1).1).1).1).0
+not_opened_path v m = not_both (is_same (v (Numbered 0)) (values.Number (pos 0))) (((m.1).1).1).0 (((((m.1).1).1).1).1).0
 
 zero_not_below : Entails nesting both_path not_below
-zero_not_below = record { by = λ v m. zero_least (v (Numbered 0)) ((m.1).1).0 }
+zero_not_below = record { by = λ v m. zero_least (v (Numbered 0)) (((m.1).1).1).0 }
 
 zero_way : Proves nesting no_program lemmas twice 0 (one_half ∷ one_half ∷ []) (at zero_path)
 zero_way = zero_step (one_half ∷ []) zero_path opened_path refl refl not_zero_path (zero_step [] opened_path both_path refl refl not_opened_path (ends both_path zero_not_below))
@@ -309,7 +310,7 @@ body : Proves nesting no_program lemmas twice 0 (outside ∷ []) (at path)
 body = may_split_aside {others = []} {st = at path} outside (half_nested (name 0)) (half_nested (name 0)) takes_first in_halves (may_split {st = at path} zero_term zero_way above_way)
 
 abbrev first_path : SymbolicState
-first_path = record { locals = []; names = first_names; chunks = []; path = OfSort (symbol 0) Integers ∷ [] }
+first_path = record { locals = []; names = first_names; chunks = []; path = OfSort (symbol 0) Integers ∷ OfSort (Variable CurrentThread) Integers ∷ [] }
 
 new_share : IsNew 1 all_of_it first_names [] first_path
 new_share = new_symbol 1 all_of_it first_names [] first_path (fresh_state 1 first_path (fresh_call 1 (symbol 0 ∷ []) refl) refl refl refl) (fresh_call 1 (symbol 0 ∷ []) refl) refl refl

@@ -83,9 +83,10 @@ fresh : IsFresh 0 begun
 unfolding begun
 fresh = record { locals = λ u. u; names = fresh_in_names; chunks = λ u. u; path = λ u. no_use u }
   where
-    no_use : ⊥ ⊎ ⊥ → ⊥
-    no_use (inl u) = u
-    no_use (inr u) = u
+    no_use : (CurrentThread ≡ Numbered 0) ⊎ (⊥ ⊎ ⊥) → ⊥
+    no_use (inl u) = cc
+    no_use (inr (inl u)) = u
+    no_use (inr (inr u)) = u
 
 -- ---- returns
 keeps : (t : Term) → KeepsFixed box_contract (call_store []) (stored (call_store []) Result t)
@@ -113,7 +114,7 @@ unfolding with_null begun
 null_way =
     do_if Equal (core.Read 0 somewhere) core.Null 3 2 Null Null refl refl refl (inr (inr (record { by = λ v m. inl refl }))) (inr (inr (record { by = λ v m. inl refl })))
     (returns_seven 3 _ refl refl refl)
-    (may_drop (record { by = λ v m. not_both true refl (m.1).0 }))
+    (may_drop (record { by = λ v m. not_both true refl ((m.1).1).0 }))
 
 first_bound : (s : terms.Store) (t : Term) → s (Numbered 0) ≡ Some t → (y : Name) → Numbered 0 ≡ y → (u : Term) × (s y ≡ Some u)
 first_bound s t is y same_name = (t, subst (λ z. s z ≡ Some t) same_name is)
@@ -184,9 +185,9 @@ module _ (st : SymbolicState) (pointer : Entails leaving_environment st.path (Of
 granted_way : Accepts leaving_environment leaving_program leaving_main box_contract [] [] 1 granted
 unfolding granted begun
 granted_way =
-    do_if Equal (core.Read 0 somewhere) core.Null 3 2 (symbol 0) Null refl refl refl (inr (inr (record { by = λ v m. (m.1).0 }))) (inr (inr (record { by = λ v m. inl refl })))
-    (may_drop (record { by = λ v m. not_both (is_same (v (Numbered 0)) values.Null) ((m.1).1.1).0 ((m.1).1).0 }))
-    (leaks _ (record { by = λ v m. (m.1).0 }) refl refl)
+    do_if Equal (core.Read 0 somewhere) core.Null 3 2 (symbol 0) Null refl refl refl (inr (inr (record { by = λ v m. ((m.1).1).0 }))) (inr (inr (record { by = λ v m. inl refl })))
+    (may_drop (record { by = λ v m. not_both (is_same (v (Numbered 0)) values.Null) (((m.1).1).1.1).0 (((m.1).1).1).0 }))
+    (leaks _ (record { by = λ v m. ((m.1).1).0 }) refl refl)
 
 body : Accepts leaving_environment leaving_program leaving_main box_contract [] [] 0 begun
 unfolding begun with_null granted

@@ -3,7 +3,7 @@ pub mod HeldMutex
 pub mod KeptCalls
 pub mod Reopened
 pub mod Walked
-pub mod TwoLemmas
+pub mod SmallLemmas
 pub mod Nested
 pub mod Defined
 pub mod Boxed

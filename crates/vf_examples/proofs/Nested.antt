@@ -7,7 +7,7 @@ use Rattle.vf_tree.specs.Core.{Subtract, Equal, LessEqual}
 use Rattle.vf_model.specs.Values.{Value}
 use Rattle.vf_model.specs.Values as values
 use Rattle.vf_meaning.specs.Fractions.{whole, product}
-use Rattle.vf_meaning.specs.Ghost.{Name, Integers, Numbered, Result, This, CurrentThread, Number, Arithmetic, Compare, Not, Fraction, Share}
+use Rattle.vf_meaning.specs.Ghost.{Name, Integers, Numbered, Result, This, CurrentThread, Number, Arithmetic, Compare, Not, Fraction, Share, Variable}
 use Rattle.vf_meaning.specs.Valuations.{Valuation, is_same}
 use Rattle.vf_meaning.specs.GhostValues.{computed}
 use Rattle.vf_meaning.specs.Names.{UsesIn}
@@ -31,7 +31,7 @@ use Rattle.vf_rules.proofs.Takes.{equal_met}
 use Rattle.vf_rules.specs.Lemmas.{LemmaTree}
 use Rattle.vf_lemmas.specs.Depths.{Aside, takes_first, Inside, OpensInto, IsFirst}
 use Rattle.vf_lemmas.specs.Proves.{Proves, may_end, may_open, may_split, may_put_back, may_open_aside, may_call_inside, IsAcceptedLemma, with_first_aside}
-use Rattle.vf_examples.specs.TwoLemmas.{no_program}
+use Rattle.vf_examples.specs.SmallLemmas.{no_program}
 use Rattle.vf_examples.specs.Nesting.{nested, one_less, is_nested, nested_body, nesting, not_negative, NestingIsAccepted}
 use Rattle.vf_lemmas.specs.Openings.{ComesTo}
 use Rattle.vf_lemmas.proofs.Asides.{neutral}
@@ -57,7 +57,7 @@ abbrev pub less_term : Term
 less_term = Arithmetic Subtract (symbol 0) (Number (pos 1))
 
 abbrev begun : SymbolicState
-begun = record { locals = []; names = names; chunks = []; path = OfSort (symbol 0) Integers ∷ [] }
+begun = record { locals = []; names = names; chunks = []; path = OfSort (symbol 0) Integers ∷ OfSort (Variable CurrentThread) Integers ∷ [] }
 
 abbrev at_zero : SymbolicState
 at_zero = assuming begun (Holds zero_term)
@@ -72,10 +72,10 @@ abbrev nested_chunk : SymbolicChunk
 nested_chunk = record { share = share; head = Of (Named nested); arguments = Some (symbol 0) ∷ [] }
 
 abbrev put_back : SymbolicState
-put_back = record { locals = []; names = names; chunks = nested_chunk ∷ []; path = OfSort (symbol 0) Integers ∷ Holds zero_term ∷ [] }
+put_back = record { locals = []; names = names; chunks = nested_chunk ∷ []; path = OfSort (symbol 0) Integers ∷ OfSort (Variable CurrentThread) Integers ∷ Holds zero_term ∷ [] }
 
 abbrev opened : SymbolicState
-opened = record { locals = []; names = names; chunks = []; path = OfSort (symbol 0) Integers ∷ Holds zero_term ∷ Holds zero_term ∷ [] }
+opened = record { locals = []; names = names; chunks = []; path = OfSort (symbol 0) Integers ∷ OfSort (Variable CurrentThread) Integers ∷ Holds zero_term ∷ Holds zero_term ∷ [] }
 
 abbrev outside : Aside
 outside = record { inside = false; assertion = is_nested (name 0) }
@@ -126,10 +126,10 @@ abbrev pub not_below : Fact
 not_below = Holds (Compare LessEqual (Number (pos 0)) (symbol 0))
 
 zero_not_below : Entails nesting opened.path not_below
-zero_not_below = record { by = λ v m. zero_least (v (Numbered 0)) (m.1).0 }
+zero_not_below = record { by = λ v m. zero_least (v (Numbered 0)) ((m.1).1).0 }
 
 more_not_below : Entails nesting after_call.path not_below
-more_not_below = record { by = λ v m. one_more (values.number_of (v (Numbered 0))) ((m.1).1).0 }
+more_not_below = record { by = λ v m. one_more (values.number_of (v (Numbered 0))) (((m.1).1).1).0 }
 
 -- ---- the first part is opened
 pub negated : (b : Bool) → not b ≡ true → b ≡ false
@@ -160,7 +160,7 @@ body_comes_to = record { by = λ v m w means under of_sorts arguments n q h. ins
     inside : (v : Valuation) → Meets nesting v above.path → (w : Valuation) → w (Numbered 0) ≡ v (Numbered 0) → (under : Valuation) → under (Numbered 0) ≡ w (Numbered 0) → (n : ℕ) (q : Part) → SatisfiesAt nesting n whole nested_body.assertion under q
         → Inside nesting n (Integers ∷ []) [] (is_nested one_less ∷ []) Empty w q
     inside v m w is under same_value n q h =
-        let not_zero = negated (is_same (v (Numbered 0)) (values.Number (pos 0))) (m.1).0 in
+        let not_zero = negated (is_same (v (Numbered 0)) (values.Number (pos 0))) ((m.1).1).0 in
         let here = refused (is_same (under (Numbered 0)) (values.Number (pos 0))) (q ≡ nothing) (SatisfiesAt nesting n whole (is_nested one_less) under q) (ap (λ z. is_same z (values.Number (pos 0))) (same_value ∙ is) ∙ not_zero) h in
         record {
           later = w;
@@ -237,7 +237,7 @@ opens = record {
   arguments = symbol 0 ∷ [];
   arguments_are = refl;
   number = refl;
-  produced = (first_or_none (store_of (symbol 0 ∷ [])) (symbol 0) refl, inr (inl (refl, refl)), inl (record { by = λ v m. not_both (is_same (v (Numbered 0)) (values.Number (pos 0))) (m.1).0 ((m.1).1).0 }));
+  produced = (first_or_none (store_of (symbol 0 ∷ [])) (symbol 0) refl, inr (inl (refl, refl)), inl (record { by = λ v m. not_both (is_same (v (Numbered 0)) (values.Number (pos 0))) ((m.1).1).0 (((m.1).1).1).0 }));
 }
 
 zero_way : Proves nesting no_program lemmas not_negative 0 (outside ∷ []) at_zero
@@ -247,7 +247,7 @@ zero_way =
 
 calls : Proves nesting no_program lemmas not_negative 0 (within ∷ []) above
 calls =
-    may_call_inside {others = []} {st = above} within passed (call_store passed) (record { store = call_store passed; state = after_call } ∷ []) takes_first refl refl integers_inhabited refl is_first
+    may_call_inside {others = []} {st = above} within passed (call_store passed) (record { store = call_store passed; state = after_call } ∷ []) takes_first refl refl integers_inhabited refl (record { by = λ v m. (m.1).0 }) is_first
     (fixed, (none_or_first (call_store passed) less_term refl, inr (inl (refl, refl)))) (only (call_store passed) after_call (ends after_call refl refl more_not_below))
 
 above_way : Proves nesting no_program lemmas not_negative 0 (outside ∷ []) above

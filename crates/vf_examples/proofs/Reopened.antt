@@ -3,7 +3,7 @@ use Rattle.std.proofs.Common.{◌≡◌, zero, suc, List, [], ◌∷◌, Some, N
 use Rattle.vf_tree.specs.Core.{NotEqual}
 use Rattle.vf_model.specs.Values as values
 use Rattle.vf_meaning.specs.Fractions.{whole}
-use Rattle.vf_meaning.specs.Ghost.{Name, Pointers, Anything, Numbered, Null, Compare, Fraction, Share}
+use Rattle.vf_meaning.specs.Ghost.{Name, Integers, Pointers, Anything, Numbered, CurrentThread, Variable, Null, Compare, Fraction, Share}
 use Rattle.vf_meaning.specs.Assertions.{Named, Plain}
 use Rattle.vf_rules.specs.Terms.{Term, Store}
 use Rattle.vf_rules.specs.States.{Fact, Holds, OfSort, CellOf, Of, SymbolicChunk, SymbolicState, Entails}
@@ -15,7 +15,7 @@ use Rattle.vf_rules.specs.Accept.{all_of_it, call_store, parameter_symbols}
 use Rattle.vf_rules.proofs.Takes.{equal_met}
 use Rattle.vf_rules.specs.Lemmas.{LemmaTree}
 use Rattle.vf_lemmas.specs.Proves.{Proves, may_end, may_open, may_close, IsAcceptedLemma, with_all}
-use Rattle.vf_examples.specs.TwoLemmas.{content, boxed, boxed_body, lemma_environment, no_program, reopen, walk}
+use Rattle.vf_examples.specs.SmallLemmas.{content, boxed, boxed_body, lemma_environment, no_program, reopen, visit, walk}
 
 some_same : {A : Type 0} {x y : A} → Some x ≡ Some y → x ≡ y
 some_same e = cc
@@ -28,7 +28,7 @@ equal_self : (path : List Fact) (t : Term) → Entails lemma_environment path (s
 equal_self path t = record { by = λ v m. equal_met lemma_environment v t t refl }
 
 abbrev lemmas : List LemmaTree
-lemmas = reopen ∷ walk ∷ []
+lemmas = reopen ∷ visit ∷ walk ∷ []
 
 -- ---- the states on the way
 abbrev names : Store
@@ -44,13 +44,13 @@ abbrev content_chunk : SymbolicChunk
 content_chunk = record { share = Share share (Fraction whole); head = CellOf content; arguments = Some (symbol 0) ∷ None ∷ [] }
 
 abbrev begun : SymbolicState
-begun = record { locals = []; names = names; chunks = box_chunk ∷ []; path = OfSort (symbol 0) Pointers ∷ [] }
+begun = record { locals = []; names = names; chunks = box_chunk ∷ []; path = OfSort (symbol 0) Pointers ∷ OfSort (Variable CurrentThread) Integers ∷ [] }
 
 abbrev opened : SymbolicState
-opened = record { locals = []; names = names; chunks = content_chunk ∷ []; path = OfSort (symbol 0) Pointers ∷ Holds (Compare NotEqual (symbol 0) Null) ∷ [] }
+opened = record { locals = []; names = names; chunks = content_chunk ∷ []; path = OfSort (symbol 0) Pointers ∷ OfSort (Variable CurrentThread) Integers ∷ Holds (Compare NotEqual (symbol 0) Null) ∷ [] }
 
 abbrev closed_again : SymbolicState
-closed_again = record { locals = []; names = names; chunks = box_chunk ∷ []; path = OfSort (symbol 0) Pointers ∷ Holds (Compare NotEqual (symbol 0) Null) ∷ [] }
+closed_again = record { locals = []; names = names; chunks = box_chunk ∷ []; path = OfSort (symbol 0) Pointers ∷ OfSort (Variable CurrentThread) Integers ∷ Holds (Compare NotEqual (symbol 0) Null) ∷ [] }
 
 abbrev arguments : List Term
 arguments = symbol 0 ∷ []

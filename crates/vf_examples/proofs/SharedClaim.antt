@@ -1,8 +1,8 @@
 -- The function of the thread keeps the contract of the type that it claims.
-use Rattle.std.proofs.Common.{List, [], ◌∷◌, Some, refl, inl, inr}
+use Rattle.std.proofs.Common.{List, [], ◌∷◌, Some, refl, inl, inr, ◌++◌}
 use Rattle.vf_meaning.specs.Ghost.{Pointers, Anything, Numbered, Result, This, Function}
 use Rattle.vf_rules.specs.Terms.{Store, stored}
-use Rattle.vf_rules.specs.States.{Fact, OfSort, SymbolicChunk, SymbolicState}
+use Rattle.vf_rules.specs.States.{Fact, OfSort, SymbolicChunk, SymbolicState, facts_of_thread}
 use Rattle.vf_rules.specs.Fresh.{symbol, IsFreshIn}
 use Rattle.vf_rules.specs.Take.{takes_all, no_change}
 use Rattle.vf_rules.specs.Laws.{Grows}
@@ -21,7 +21,7 @@ module _ (beside : Beside) where
   claim_names = stored (pointer_store (symbol 0 ∷ []) (Function tick_name)) (Numbered 1) (symbol 1)
 
   abbrev claim_path : List Fact
-  claim_path = OfSort (symbol 0) Pointers ∷ OfSort (symbol 0) Pointers ∷ OfSort (symbol 1) Anything ∷ []
+  claim_path = OfSort (symbol 0) Pointers ∷ OfSort (symbol 0) Pointers ∷ facts_of_thread ++ OfSort (symbol 1) Anything ∷ []
 
   abbrev claimed_at : Store → List SymbolicChunk → SymbolicState
   claimed_at names chunks = record { locals = []; names = names; chunks = chunks; path = claim_path }
@@ -89,7 +89,7 @@ module _ (beside : Beside) where
                 same_self (environment_beside beside) claim_path (symbol 0),
                 (
                   refl,
-                  (by_place (environment_beside beside) claim_path 2 (OfSort (symbol 1) Anything) refl, tt),
+                  (by_place (environment_beside beside) claim_path 3 (OfSort (symbol 1) Anything) refl, tt),
                   (
                     2,
                     new_symbol 2 all_of_it own_store [] (claimed_at claim_names []) (fresh_state 2 (claimed_at claim_names []) fresh_claimed refl refl refl) (fresh_stored 2 (call_store (symbol 0 ∷ [])) (Numbered 1) (symbol 1) (fresh_call 2 (symbol 0 ∷ []) refl) refl) refl refl,

@@ -6,7 +6,7 @@ use Rattle.vf_meaning.specs.Fractions.{whole}
 use Rattle.vf_meaning.specs.Ghost.{Pointers, Numbered, Null, Number, Truth, Function, Fraction, Share, Compare, Not}
 use Rattle.vf_meaning.specs.Assertions.{Named}
 use Rattle.vf_rules.specs.Terms.{Term, Store, stored}
-use Rattle.vf_rules.specs.States.{Fact, Holds, OfSort, Of, SymbolicChunk, SymbolicState}
+use Rattle.vf_rules.specs.States.{Fact, Holds, OfSort, Of, SymbolicChunk, SymbolicState, facts_of_thread}
 use Rattle.vf_rules.specs.Fresh.{symbol, IsFreshIn}
 use Rattle.vf_rules.specs.Take.{same}
 use Rattle.vf_rules.specs.Predicates.{store_of}
@@ -18,7 +18,7 @@ use Rattle.vf_examples.proofs.SharedTick.{written_share, half_at, guarded_by, fi
 
 -- ---- until the thread is joined
 abbrev pub path1 : List Fact
-path1 = Holds (Truth true) ∷ OfSort (symbol 0) Pointers ∷ Holds (Compare core.NotEqual (symbol 0) Null) ∷ Holds (Not (Compare core.Equal (symbol 0) Null)) ∷ []
+path1 = facts_of_thread ++ Holds (Truth true) ∷ OfSort (symbol 0) Pointers ∷ Holds (Compare core.NotEqual (symbol 0) Null) ∷ Holds (Not (Compare core.Equal (symbol 0) Null)) ∷ []
 
 abbrev pub path2 : List Fact
 path2 = path1 ++ OfSort (symbol 1) Pointers ∷ []

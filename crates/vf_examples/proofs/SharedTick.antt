@@ -9,7 +9,7 @@ use Rattle.vf_meaning.specs.Fractions.{whole}
 use Rattle.vf_meaning.specs.Ghost.{Pointers, Anything, Name, Numbered, Result, CurrentThread, Variable, Null, Number, Function, Fraction, Share, Compare, PredicateValue, and_expression, no_expressions}
 use Rattle.vf_meaning.specs.Assertions.{Named, Family, Applied, Plain, Instance}
 use Rattle.vf_rules.specs.Terms.{Term, Store, stored}
-use Rattle.vf_rules.specs.States.{Fact, Holds, OfSort, CellOf, Of, SymbolicChunk, SymbolicState}
+use Rattle.vf_rules.specs.States.{Fact, Holds, OfSort, CellOf, Of, SymbolicChunk, SymbolicState, facts_of_thread}
 use Rattle.vf_rules.specs.Fresh.{symbol, IsFreshIn}
 use Rattle.vf_rules.specs.Types.{type_of_field, facts_of_type}
 use Rattle.vf_rules.specs.Take.{Renames, takes_all, takes_later, removes_here, removes_later, no_change, and_change, names_value, makes_value, replaces_here, replaces_later}
@@ -66,10 +66,10 @@ module _ (beside : Beside) where
   names = stored (call_store (symbol 0 ∷ [])) (Numbered 1) (symbol 1)
 
   abbrev path0 : List Fact
-  path0 = OfSort (symbol 0) Pointers ∷ OfSort (symbol 0) Pointers ∷ OfSort (symbol 1) Anything ∷ []
+  path0 = OfSort (symbol 0) Pointers ∷ OfSort (symbol 0) Pointers ∷ facts_of_thread ++ OfSort (symbol 1) Anything ∷ []
 
   abbrev path1 : List Fact
-  path1 = OfSort (symbol 0) Pointers ∷ OfSort (symbol 0) Pointers ∷ OfSort (symbol 1) Anything ∷ OfSort (symbol 2) Pointers ∷ Holds (Compare core.NotEqual (symbol 0) Null) ∷ OfSort (symbol 2) Pointers ∷ []
+  path1 = path0 ++ OfSort (symbol 2) Pointers ∷ Holds (Compare core.NotEqual (symbol 0) Null) ∷ OfSort (symbol 2) Pointers ∷ []
 
   abbrev path2 : List Fact
   path2 = path1 ++ Holds (Compare core.NotEqual (symbol 0) Null) ∷ []
@@ -119,8 +119,8 @@ module _ (beside : Beside) where
     there = refl;
     arguments = symbol 0 ∷ symbol 1 ∷ [];
     number = refl;
-    of_sorts = sorted (environment_beside beside) path2 (Pointers ∷ Anything ∷ Pointers ∷ []) (symbol 0 ∷ symbol 1 ∷ []) (by_place (environment_beside beside) path2 0 (OfSort (symbol 0) Pointers) refl, (by_place (environment_beside beside) path2 2 (OfSort (symbol 1) Anything) refl, tt));
-    inhabited = inhabited (environment_beside beside) refl (Pointers ∷ Anything ∷ Pointers ∷ []) (tt, (tt, (tt, tt)));
+    of_sorts = sorted (environment_beside beside) path2 (Pointers ∷ Anything ∷ Pointers ∷ []) (symbol 0 ∷ symbol 1 ∷ []) (by_place (environment_beside beside) path2 0 (OfSort (symbol 0) Pointers) refl, (by_place (environment_beside beside) path2 3 (OfSort (symbol 1) Anything) refl, tt));
+    inhabited = inhabited (environment_beside beside) (inr refl) (Pointers ∷ Anything ∷ Pointers ∷ []) (tt, (tt, (tt, tt)));
     consumed = (
       name_bound (store_of (symbol 0 ∷ symbol 1 ∷ [])) (Numbered 0) (symbol 0) refl,
       (
@@ -141,7 +141,7 @@ module _ (beside : Beside) where
                 same_self (environment_beside beside) path2 (symbol 0),
                 (
                   refl,
-                  (by_place (environment_beside beside) path2 3 (OfSort (symbol 2) Pointers) refl, tt),
+                  (by_place (environment_beside beside) path2 4 (OfSort (symbol 2) Pointers) refl, tt),
                   (
                     nothing_bound body_store,
                     (
@@ -215,7 +215,7 @@ module _ (beside : Beside) where
   releases_it : Goes 3 (at loaded path2 (cell_half ∷ held ∷ guarded_chunk all_of_it (symbol 0) ∷ []))
   releases_it =
       do_prelude None (identity_of MutexRelease) (core.Read 1 somewhere ∷ []) somewhere 4 MutexRelease release (symbol 2 ∷ []) (record { store = stored release_store Result (symbol 4); state = at loaded path2 (cell_half ∷ mutex_back ∷ []) } ∷ [])
-      refl refl releases refl (inhabited (environment_beside beside) refl release.sorts (tt, (tt, (tt, tt)))) (λ h. refl) (refl, tt) refl (sorted (environment_beside beside) path2 release.sorts (symbol 2 ∷ []) (by_place (environment_beside beside) path2 3 (OfSort (symbol 2) Pointers) refl, tt)) (
+      refl refl releases refl (inhabited (environment_beside beside) (inr refl) release.sorts (tt, (tt, (tt, tt)))) (λ h. refl) (refl, tt) refl (sorted (environment_beside beside) path2 release.sorts (symbol 2 ∷ []) (by_place (environment_beside beside) path2 4 (OfSort (symbol 2) Pointers) refl, tt)) (
         nothing_bound (call_store (symbol 2 ∷ [])),
         (
           at loaded path2 (cell_half ∷ held ∷ guarded_chunk all_of_it (symbol 0) ∷ []),
@@ -233,7 +233,7 @@ module _ (beside : Beside) where
                   same_self (environment_beside beside) path2 (symbol 2),
                   (
                     refl,
-                    (guarded_sorted (environment_beside beside) refl path2 (symbol 0) (by_place (environment_beside beside) path2 0 (OfSort (symbol 0) Pointers) refl), tt),
+                    (guarded_sorted (environment_beside beside) (inr refl) path2 (symbol 0) (by_place (environment_beside beside) path2 0 (OfSort (symbol 0) Pointers) refl), tt),
                     (
                       name_bound (stored (call_store (symbol 2 ∷ [])) (Numbered 1) q) CurrentThread (Variable CurrentThread) refl,
                       same_self (environment_beside beside) path2 (Variable CurrentThread),
@@ -293,7 +293,7 @@ module _ (beside : Beside) where
     arguments = symbol 0 ∷ [];
     number = refl;
     of_sorts = sorted (environment_beside beside) path2 (Pointers ∷ []) (symbol 0 ∷ []) (by_place (environment_beside beside) path2 0 (OfSort (symbol 0) Pointers) refl, tt);
-    inhabited = inhabited (environment_beside beside) refl (Pointers ∷ []) (tt, tt);
+    inhabited = inhabited (environment_beside beside) (inr refl) (Pointers ∷ []) (tt, tt);
     consumed = (
       name_bound (store_of (symbol 0 ∷ [])) (Numbered 0) (symbol 0) refl,
       (
@@ -371,7 +371,7 @@ module _ (beside : Beside) where
   acquires_it : Goes 1 (at loaded path1 (cell_half ∷ mutex_half ∷ []))
   acquires_it =
       do_prelude None (identity_of MutexAcquire) (core.Read 1 somewhere ∷ []) somewhere 2 MutexAcquire acquisition (symbol 2 ∷ []) (record { store = stored acquire_store Result (symbol 3); state = at loaded path1 (cell_half ∷ held ∷ applied_chunk written_share q ∷ []) } ∷ [])
-      refl refl acquires refl (inhabited (environment_beside beside) refl acquisition.sorts (tt, (tt, (tt, tt)))) (λ h. refl) (refl, tt) refl (sorted (environment_beside beside) path1 acquisition.sorts (symbol 2 ∷ []) (by_place (environment_beside beside) path1 3 (OfSort (symbol 2) Pointers) refl, tt)) (
+      refl refl acquires refl (inhabited (environment_beside beside) (inr refl) acquisition.sorts (tt, (tt, (tt, tt)))) (λ h. refl) (refl, tt) refl (sorted (environment_beside beside) path1 acquisition.sorts (symbol 2 ∷ []) (by_place (environment_beside beside) path1 4 (OfSort (symbol 2) Pointers) refl, tt)) (
         nothing_bound (call_store (symbol 2 ∷ [])),
         (
           at loaded path1 (cell_half ∷ mutex_half ∷ []),
@@ -391,7 +391,7 @@ module _ (beside : Beside) where
                 same_self (environment_beside beside) path1 (symbol 2),
                 (
                   refl,
-                  (guarded_sorted (environment_beside beside) refl path1 (symbol 0) (by_place (environment_beside beside) path1 0 (OfSort (symbol 0) Pointers) refl), tt),
+                  (guarded_sorted (environment_beside beside) (inr refl) path1 (symbol 0) (by_place (environment_beside beside) path1 0 (OfSort (symbol 0) Pointers) refl), tt),
                   (
                     3,
                     new_symbol 3 all_of_it acquire_store [] (at loaded path1 (cell_half ∷ [])) (fresh_state 3 (at loaded path1 (cell_half ∷ [])) fresh_three refl refl refl) fresh_acquired refl refl,
@@ -471,7 +471,7 @@ module _ (beside : Beside) where
   tick_begun = record { locals = unloaded; names = call_store (symbol 0 ∷ []); chunks = pre_chunk written_share (symbol 0) (symbol 1) ∷ []; path = path0 }
 
   pub tick_has : HasContract (environment_beside beside) tick tick_contract
-  tick_has = record { known = inl refl; parameters = refl; fewer = omega arith; inhabited = inhabited (environment_beside beside) refl tick_contract.sorts (tt, (tt, tt)) }
+  tick_has = record { known = inl refl; parameters = refl; fewer = omega arith; inhabited = inhabited (environment_beside beside) (inr refl) tick_contract.sorts (tt, (tt, tt)) }
 
   pub tick_accepted : IsAcceptedFunction (environment_beside beside) (program_beside beside) tick tick_contract
   tick_accepted = record {

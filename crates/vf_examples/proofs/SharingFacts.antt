@@ -6,7 +6,7 @@ use Rattle.vf_tree.specs.Core.{Integer, Void}
 use Rattle.vf_model.specs.Values.{Dyadic, Odd, Value}
 use Rattle.vf_model.specs.Values as values
 use Rattle.vf_meaning.specs.Fractions.{whole, product, IsPositive}
-use Rattle.vf_meaning.specs.Ghost.{Sort, Integers, Truths, Pointers, Fractions, Anything, Datatype, Predicates, none, more, Name, Numbered, CurrentThread, Variable, PredicateValue, and_expression, no_expressions}
+use Rattle.vf_meaning.specs.Ghost.{Sort, Integers, Truths, Pointers, Fractions, Anything, Parameter, Datatype, Predicates, none, more, Name, Numbered, CurrentThread, Variable, PredicateValue, and_expression, no_expressions}
 use Rattle.vf_meaning.specs.Valuations.{Valuation}
 use Rattle.vf_meaning.specs.Sorts.{HasSort, ParametersAre}
 use Rattle.vf_meaning.specs.Kept.{IsFixed}
@@ -36,7 +36,7 @@ among_one P s0 st0 h s st (inr never) = absurd never
 
 -- the predicate of a pointer's struct is declared: it has that pointer, and no further arguments
 abbrev pub HasGuarded : Environment → Type 0
-HasGuarded e = ParametersAre (e.predicates guarded_name) (Pointers ∷ [])
+HasGuarded e = ParametersAre guarded_name (e.predicates guarded_name) (Pointers ∷ [])
 
 -- ---- what paths entail
 pub same_self : (e : Environment) (path : List Fact) (t : Term) → Entails e path (same t t)
@@ -116,7 +116,8 @@ witness e is_guarded (Predicates none) h = (values.Predicate guarded_name (value
 witness e is_guarded (Predicates (more s ss)) h = absurd h
 witness e is_guarded Integers h = absurd h
 witness e is_guarded Truths h = absurd h
-witness e is_guarded (Datatype d) h = absurd h
+witness e is_guarded (Parameter j) h = absurd h
+witness e is_guarded (Datatype d ts) h = absurd h
 
 abbrev pub AreSimple : List Sort → Type 0
 AreSimple [] = Unit {0}

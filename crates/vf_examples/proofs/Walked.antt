@@ -4,11 +4,13 @@ use Rattle.std.specs.Bool.{MatchBool}
 use Rattle.vf_tree.specs.Core.{Equal}
 use Rattle.vf_model.specs.Values.{Value, Values, none, more, same_identity}
 use Rattle.vf_model.specs.Values as values
-use Rattle.vf_meaning.specs.Ghost.{Sort, Name, Integers, Truths, Pointers, Fractions, Anything, Datatype, Numbered, Result, This, CurrentThread, Truth, Compare, Construct, no_expressions, and_expression}
+use Rattle.vf_meaning.specs.Ghost.{Sort, Name, Integers, Truths, Pointers, Fractions, Anything, Numbered, Result, This, CurrentThread, Variable, Truth, Compare, Construct, no_expressions, and_expression}
+use Rattle.vf_meaning.specs.Ghost.{Parameter, Datatype}
+use Rattle.vf_meaning.specs.Ghost as ghost
 use Rattle.vf_meaning.specs.Valuations.{Valuation, size}
 use Rattle.vf_meaning.specs.Names.{Uses}
 use Rattle.vf_meaning.specs.Sorts.{IsDatatypeOf, ArgumentsAre, HasSort, HaveSorts}
-use Rattle.vf_meaning.specs.Assertions.{Empty, Branches, no_branches, branch}
+use Rattle.vf_meaning.specs.Assertions.{Empty, Branches, no_branches, branch, ContractTree}
 use Rattle.vf_rules.specs.Terms.{Term, Store, stored}
 use Rattle.vf_rules.specs.States.{Fact, Holds, OfSort, SymbolicState, Entails, assuming}
 use Rattle.vf_rules.specs.Fresh.{symbol, IsFreshIn, IsNew}
@@ -23,8 +25,8 @@ use Rattle.vf_rules.proofs.Terms.{stored_other}
 use Rattle.vf_rules.proofs.Takes.{same_value}
 use Rattle.vf_rules.proofs.Cases.{empty_cases_hold}
 use Rattle.vf_rules.specs.Lemmas.{LemmaTree}
-use Rattle.vf_lemmas.specs.Proves.{IsSmaller, smaller_argument, Proves, may_end, may_know, may_call, IsAcceptedLemma, with_all}
-use Rattle.vf_examples.specs.TwoLemmas.{list_name, nil_name, cons_name, lemma_environment, no_program, cases_of_list, sorts_of_cases, reopen, walk}
+use Rattle.vf_lemmas.specs.Proves.{IsSmaller, earlier, smaller_argument, Proves, may_end, may_know, may_call, IsAcceptedLemma, with_all}
+use Rattle.vf_examples.specs.SmallLemmas.{list_name, nil_name, cons_name, ints, lemma_environment, no_program, cases_of_list, sorts_of_cases, reopen, visit, walk}
 
 some_same : {A : Type 0} {x y : A} → Some x ≡ Some y → x ≡ y
 some_same e = cc
@@ -33,17 +35,20 @@ none_some : {A B : Type 0} {x : A} → None ≡ Some x → B
 none_some e = cc
 
 abbrev lemmas : List LemmaTree
-lemmas = reopen ∷ walk ∷ []
+lemmas = reopen ∷ visit ∷ walk ∷ []
 
 -- ---- the states on the way
 abbrev names : Store
 names = call_store (symbol 0 ∷ [])
 
 abbrev of_list : Term → Fact
-of_list t = OfSort t (Datatype list_name)
+of_list t = OfSort t ints
+
+abbrev of_thread : Fact
+of_thread = OfSort (Variable CurrentThread) Integers
 
 abbrev begun : SymbolicState
-begun = record { locals = []; names = names; chunks = []; path = of_list (symbol 0) ∷ Holds (Truth true) ∷ [] }
+begun = record { locals = []; names = names; chunks = []; path = of_list (symbol 0) ∷ of_thread ∷ Holds (Truth true) ∷ [] }
 
 abbrev is_nil : Fact
 is_nil = Holds (Compare Equal (symbol 0) (Construct nil_name no_expressions))
@@ -52,22 +57,31 @@ abbrev is_cons : Fact
 is_cons = Holds (Compare Equal (symbol 0) (Construct cons_name (and_expression (symbol 1) (and_expression (symbol 2) no_expressions))))
 
 abbrev with_nil : SymbolicState
-with_nil = record { locals = []; names = names; chunks = []; path = of_list (symbol 0) ∷ Holds (Truth true) ∷ is_nil ∷ [] }
+with_nil = record { locals = []; names = names; chunks = []; path = of_list (symbol 0) ∷ of_thread ∷ Holds (Truth true) ∷ is_nil ∷ [] }
 
 abbrev with_head : SymbolicState
-with_head = record { locals = []; names = names; chunks = []; path = of_list (symbol 0) ∷ Holds (Truth true) ∷ OfSort (symbol 1) Integers ∷ [] }
+with_head = record { locals = []; names = names; chunks = []; path = of_list (symbol 0) ∷ of_thread ∷ Holds (Truth true) ∷ OfSort (symbol 1) Integers ∷ [] }
 
 abbrev with_cons : SymbolicState
-with_cons = record { locals = []; names = names; chunks = []; path = of_list (symbol 0) ∷ Holds (Truth true) ∷ OfSort (symbol 1) Integers ∷ of_list (symbol 2) ∷ is_cons ∷ [] }
+with_cons = record { locals = []; names = names; chunks = []; path = of_list (symbol 0) ∷ of_thread ∷ Holds (Truth true) ∷ OfSort (symbol 1) Integers ∷ of_list (symbol 2) ∷ is_cons ∷ [] }
 
 abbrev after_cases : List Outcome
 after_cases = record { store = names; state = with_nil } ∷ record { store = names; state = with_cons } ∷ []
+
+abbrev visiting : List Term
+visiting = symbol 1 ∷ []
+
+abbrev visited : SymbolicState
+visited = assuming with_cons (Holds (Truth true))
+
+abbrev after_visit : List Outcome
+after_visit = record { store = call_store visiting; state = visited } ∷ []
 
 abbrev passed : List Term
 passed = symbol 2 ∷ []
 
 abbrev after_call : List Outcome
-after_call = record { store = call_store passed; state = assuming with_cons (Holds (Truth true)) } ∷ []
+after_call = record { store = call_store passed; state = assuming visited (Holds (Truth true)) } ∷ []
 
 -- ---- names
 no_names : (s : Store) (x : Name) → ⊥ → (t : Term) × (s x ≡ Some t)
@@ -112,7 +126,7 @@ head_fresh CurrentThread t is used = thread_number 2 (subst (λ z. Uses z (Numbe
 
 new_head : IsNew 1 all_of_it names (Some (symbol 0) ∷ []) begun
 new_head = record {
-  state = record { locals = λ u. u; names = names_fresh 0; chunks = λ u. u; path = λ u. elim u [ inl x ↦ other_number 0 1 (zero_suc 0) x | inr x ↦ elim x [ inl y ↦ y | inr y ↦ y ] ] };
+  state = record { locals = λ u. u; names = names_fresh 0; chunks = λ u. u; path = λ u. elim u [ inl x ↦ other_number 0 1 (zero_suc 0) x | inr x ↦ elim x [ inl y ↦ thread_number 1 y | inr y ↦ elim y [ inl z ↦ z | inr z ↦ z ] ] ] };
   store = names_fresh 0;
   scale_free = λ u. u;
   arguments_free = λ u. elim u [ inl x ↦ other_number 0 1 (zero_suc 0) x | inr x ↦ x ];
@@ -124,7 +138,7 @@ new_rest = record {
     locals = λ u. u;
     names = names_fresh 1;
     chunks = λ u. u;
-    path = λ u. elim u [ inl x ↦ other_number 0 2 (zero_suc 1) x | inr x ↦ elim x [ inl y ↦ y | inr y ↦ elim y [ inl z ↦ other_number 1 2 (one_suc 0) z | inr z ↦ z ] ] ];
+    path = λ u. elim u [ inl x ↦ other_number 0 2 (zero_suc 1) x | inr x ↦ elim x [ inl y ↦ thread_number 2 y | inr y ↦ elim y [ inl z ↦ z | inr z ↦ elim z [ inl a ↦ other_number 1 2 (one_suc 0) a | inr a ↦ a ] ] ] ];
   };
   store = head_fresh;
   scale_free = λ u. u;
@@ -142,14 +156,14 @@ nil_names : (vs : Values) → HaveSorts lemma_environment vs [] → NamesHaveSor
 nil_names none h = tt
 nil_names (more v vs) h = h
 
-cons_names : (vs : Values) → HaveSorts lemma_environment vs (Integers ∷ Datatype list_name ∷ []) → NamesHaveSorts lemma_environment sorts_of_cases (Numbered 1 ∷ Numbered 2 ∷ []) vs
+cons_names : (vs : Values) → HaveSorts lemma_environment vs (Integers ∷ ints ∷ []) → NamesHaveSorts lemma_environment sorts_of_cases (Numbered 1 ∷ Numbered 2 ∷ []) vs
 cons_names none h = h
 cons_names (more v none) h = absurd h.1
-cons_names (more v (more w none)) h = (sort_at 1 Integers v refl h.0, (sort_at 2 (Datatype list_name) w refl (h.1).0, tt))
+cons_names (more v (more w none)) h = (sort_at 1 Integers v refl h.0, (sort_at 2 ints w refl (h.1).0, tt))
 cons_names (more v (more w (more x vs))) h = absurd (h.1).1
 
-covered_by : (b c : Bool) (vs : Values) → IsDatatypeOf (cond b (Some (record { datatype = list_name; arguments = [] })) (cond c (Some (record { datatype = list_name; arguments = Integers ∷ Datatype list_name ∷ [] })) None)) (Datatype list_name)
-    → (sorts : List Sort) → ArgumentsAre (cond b (Some (record { datatype = list_name; arguments = [] })) (cond c (Some (record { datatype = list_name; arguments = Integers ∷ Datatype list_name ∷ [] })) None)) sorts → HaveSorts lemma_environment vs sorts
+covered_by : (b c : Bool) (vs : Values) → IsDatatypeOf (cond b (Some (record { datatype = list_name; parameters = 1; arguments = [] })) (cond c (Some (record { datatype = list_name; parameters = 1; arguments = Parameter 0 ∷ Datatype list_name (ghost.more (Parameter 0) ghost.none) ∷ [] })) None)) ints
+    → (sorts : List Sort) → ArgumentsAre (cond b (Some (record { datatype = list_name; parameters = 1; arguments = [] })) (cond c (Some (record { datatype = list_name; parameters = 1; arguments = Parameter 0 ∷ Datatype list_name (ghost.more (Parameter 0) ghost.none) ∷ [] })) None)) ints sorts → HaveSorts lemma_environment vs sorts
     → MatchBool b (NamesHaveSorts lemma_environment sorts_of_cases [] vs) (MatchBool c (NamesHaveSorts lemma_environment sorts_of_cases (Numbered 1 ∷ Numbered 2 ∷ []) vs) ⊥)
 covered_by true c vs data_is sorts are h = nil_names vs (subst (HaveSorts lemma_environment vs) (sym are) h)
 covered_by false true vs data_is sorts are h = cons_names vs (subst (HaveSorts lemma_environment vs) (sym are) h)
@@ -158,43 +172,43 @@ covered_by false false vs data_is sorts are h = data_is
 abbrev cases : Branches
 cases = branch nil_name [] Empty (branch cons_name (Numbered 1 ∷ Numbered 2 ∷ []) Empty no_branches)
 
-no_list : {A : Type 0} (s : Sort) → (Datatype list_name ≡ s → ⊥) → (Datatype list_name ≡ s) ⊎ (Datatype list_name ≡ Anything) → A
+no_list : {A : Type 0} (s : Sort) → (ints ≡ s → ⊥) → (ints ≡ s) ⊎ (ints ≡ Anything) → A
 no_list s h (inl is) = absurd (h is)
 no_list s h (inr is) = absurd (clash is)
   where
-    clash : Datatype list_name ≡ Anything → ⊥
+    clash : ints ≡ Anything → ⊥
     clash h = cc
 
-covered : (w : Value) → HasSort lemma_environment w (Datatype list_name) → IsCovered lemma_environment sorts_of_cases cases w
+covered : (w : Value) → HasSort lemma_environment w ints → IsCovered lemma_environment sorts_of_cases cases w
 covered (values.Constructed c vs) h = covered_by (same_identity nil_name c) (same_identity cons_name c) vs h.0 (h.1).0 (h.1).1 (h.1).2
 covered (values.Number z) h = no_list Integers (λ e. clash e) h
   where
-    clash : Datatype list_name ≡ Integers → ⊥
+    clash : ints ≡ Integers → ⊥
     clash h = cc
 covered (values.Truth b) h = no_list Truths (λ e. clash e) h
   where
-    clash : Datatype list_name ≡ Truths → ⊥
+    clash : ints ≡ Truths → ⊥
     clash h = cc
 covered values.Null h = no_list Pointers (λ e. clash e) h
   where
-    clash : Datatype list_name ≡ Pointers → ⊥
+    clash : ints ≡ Pointers → ⊥
     clash h = cc
 covered (values.Pointer b o) h = no_list Pointers (λ e. clash e) h
   where
-    clash : Datatype list_name ≡ Pointers → ⊥
+    clash : ints ≡ Pointers → ⊥
     clash h = cc
 covered (values.Function g) h = no_list Pointers (λ e. clash e) h
   where
-    clash : Datatype list_name ≡ Pointers → ⊥
+    clash : ints ≡ Pointers → ⊥
     clash h = cc
-covered (values.Predicate q vs) h = absurd h.1
+covered (values.Predicate q vs) h = absurd h.2
 covered (values.Fraction d) h = no_list Fractions (λ e. clash e) h.0
   where
-    clash : Datatype list_name ≡ Fractions → ⊥
+    clash : ints ≡ Fractions → ⊥
     clash h = cc
 
-lists_inhabited : (s : Sort) → Datatype list_name ≡ s → (w : Value) × HasSort lemma_environment w s
-lists_inhabited s is = (values.Constructed nil_name none, subst (HasSort lemma_environment (values.Constructed nil_name none)) is (refl, ([], refl, tt)))
+lists_inhabited : (s : Sort) → ints ≡ s → (w : Value) × HasSort lemma_environment w s
+lists_inhabited s is = (values.Constructed nil_name none, subst (HasSort lemma_environment (values.Constructed nil_name none)) is ((refl, refl), ([], refl, tt)))
 
 cases_inhabited : AreInhabited lemma_environment sorts_of_cases
 cases_inhabited zero s is = lists_inhabited s (some_same is)
@@ -202,14 +216,18 @@ cases_inhabited (suc zero) s is = (values.Number (pos 0), subst (HasSort lemma_e
 cases_inhabited (suc (suc zero)) s is = lists_inhabited s (some_same is)
 cases_inhabited (suc (suc (suc k))) s is = none_some is
 
-walk_inhabited : AreInhabited lemma_environment (Datatype list_name ∷ [])
+walk_inhabited : AreInhabited lemma_environment (ints ∷ [])
 walk_inhabited zero s is = lists_inhabited s (some_same is)
 walk_inhabited (suc k) s is = none_some is
 
+numbers_inhabited : AreInhabited lemma_environment (Integers ∷ [])
+numbers_inhabited zero s is = (values.Number (pos 0), subst (HasSort lemma_environment (values.Number (pos 0))) (some_same is) (inl refl))
+numbers_inhabited (suc k) s is = none_some is
+
 -- ---- sorts of terms
-first_sorted : (path : List Fact) (t : Term) → Entails lemma_environment path (of_list t) → AreSorted lemma_environment path (Datatype list_name ∷ []) (t ∷ [])
-first_sorted path t h zero s u is at = subst (λ z. Entails lemma_environment path (OfSort z s)) (some_same at) (subst (λ z. Entails lemma_environment path (OfSort t z)) (some_same is) h)
-first_sorted path t h (suc k) s u is at = none_some is
+one_sorted : (so : Sort) (path : List Fact) (t : Term) → Entails lemma_environment path (OfSort t so) → AreSorted lemma_environment path (so ∷ []) (t ∷ [])
+one_sorted so path t h zero s u is at = subst (λ z. Entails lemma_environment path (OfSort z s)) (some_same at) (subst (λ z. Entails lemma_environment path (OfSort t z)) (some_same is) h)
+one_sorted so path t h (suc k) s u is at = none_some is
 
 names_sorted : (path : List Fact) → Entails lemma_environment path (of_list (symbol 0)) → AreNamesSorted lemma_environment path sorts_of_cases names
 names_sorted path h zero s t is at = subst (λ z. Entails lemma_environment path (OfSort z s)) (some_same at) (subst (λ z. Entails lemma_environment path (OfSort (symbol 0) z)) (some_same is) h)
@@ -235,40 +253,69 @@ rest_smaller v is = subst (λ z. size (v (Numbered 2)) < size z) (sym is) (small
     smaller : (a b : ℕ) → b < suc (a + (b + 0))
     smaller a b = omega arith
 
-smaller_rest : IsSmaller lemma_environment with_cons.path (symbol 2) (symbol 0)
-smaller_rest = record { by = λ v m. rest_smaller v (same_value lemma_environment v (symbol 0) (Construct cons_name (and_expression (symbol 1) (and_expression (symbol 2) no_expressions))) ((((m.1).1).1).1).0) }
+smaller_rest : IsSmaller lemma_environment visited.path (symbol 2) (symbol 0)
+smaller_rest = record { by = λ v m. rest_smaller v (same_value lemma_environment v (symbol 0) (Construct cons_name (and_expression (symbol 1) (and_expression (symbol 2) no_expressions))) (((((m.1).1).1).1).1).0) }
 
-fixed : AreFixed walk.contract (call_store passed)
-fixed (Numbered zero) t is = inl (omega arith)
-fixed (Numbered (suc k)) t is = none_some is
-fixed Result t is = none_some is
-fixed This t is = none_some is
-fixed CurrentThread t is = tt
+fixed : (k : ContractTree) (u : Term) → k.parameters ≡ 1 → AreFixed k (call_store (u ∷ []))
+fixed k u one (Numbered zero) t is = inl (omega (arith, one))
+fixed k u one (Numbered (suc j)) t is = none_some is
+fixed k u one Result t is = none_some is
+fixed k u one This t is = none_some is
+fixed k u one CurrentThread t is = tt
 
-ends : (st : SymbolicState) → st.chunks ≡ [] → Proves lemma_environment no_program lemmas walk 1 [] st
+ends : (st : SymbolicState) → st.chunks ≡ [] → Proves lemma_environment no_program lemmas walk 2 [] st
 ends st none_left = may_end {st = st} (no_names st.names, is_true st.path, (none_left, λ x t fix is. is))
 
-calls : Proves lemma_environment no_program lemmas walk 1 [] with_cons
+knows_thread : (path : List Fact) → Entails lemma_environment (of_list (symbol 0) ∷ of_thread ∷ path) of_thread
+knows_thread path = record { by = λ v m. (m.1).0 }
+
+-- itself is called with the rest of the list
+calls : Proves lemma_environment no_program lemmas walk 2 [] visited
 calls =
-    may_call {st = with_cons} 1 walk passed after_call refl (λ h. h) walk_inhabited refl (first_sorted with_cons.path (symbol 2) (record { by = λ v m. (((m.1).1).1).0 }))
-    (no_names (call_store passed), is_true with_cons.path, (smaller_argument 0 (symbol 2) (symbol 0) refl (omega arith) refl refl smaller_rest, fixed, (no_names (call_store passed), inr (inl (refl, refl)))))
+    may_call {st = visited} 2 walk passed after_call refl (λ h. h) walk_inhabited refl (one_sorted ints visited.path (symbol 2) (record { by = λ v m. ((((m.1).1).1).1).0 })) (knows_thread _)
+    (no_names (call_store passed), is_true visited.path, (smaller_argument 0 (symbol 2) (symbol 0) refl (omega arith) refl refl smaller_rest, fixed walk.contract (symbol 2) refl, (no_names (call_store passed), inr (inl (refl, refl)))))
     (λ s su among. only s su among)
   where
-    only : (s : Store) (su : SymbolicState) → IsAmong after_call s su → Proves lemma_environment no_program lemmas walk 1 [] su
-    only s su (inl found) = subst (Proves lemma_environment no_program lemmas walk 1 []) found.1 (ends (assuming with_cons (Holds (Truth true))) refl)
+    only : (s : Store) (su : SymbolicState) → IsAmong after_call s su → Proves lemma_environment no_program lemmas walk 2 [] su
+    only s su (inl found) = subst (Proves lemma_environment no_program lemmas walk 2 []) found.1 (ends (assuming visited (Holds (Truth true))) refl)
     only s su (inr never) = absurd never
 
-body : Proves lemma_environment no_program lemmas walk 1 [] begun
+-- the first element of the list is passed for an int
+visits : Proves lemma_environment no_program lemmas walk 2 [] with_cons
+visits =
+    may_call {st = with_cons} 1 visit visiting after_visit refl (λ h. h) numbers_inhabited refl (one_sorted Integers with_cons.path (symbol 1) (record { by = λ v m. (((m.1).1).1).0 })) (knows_thread _)
+    (no_names (call_store visiting), is_true with_cons.path, (earlier (omega arith), fixed visit.contract (symbol 1) refl, (no_names (call_store visiting), inr (inl (refl, refl)))))
+    (λ s su among. only s su among)
+  where
+    only : (s : Store) (su : SymbolicState) → IsAmong after_visit s su → Proves lemma_environment no_program lemmas walk 2 [] su
+    only s su (inl found) = subst (Proves lemma_environment no_program lemmas walk 2 []) found.1 calls
+    only s su (inr never) = absurd never
+
+body : Proves lemma_environment no_program lemmas walk 2 [] begun
 body = may_know {st = begun} cases_of_list sorts_of_cases names after_cases of_nothing knows (λ s su among. each s su among)
   where
-    each : (s : Store) (su : SymbolicState) → IsAmong after_cases s su → Proves lemma_environment no_program lemmas walk 1 [] su
-    each s su (inl found) = subst (Proves lemma_environment no_program lemmas walk 1 []) found.1 (ends with_nil refl)
-    each s su (inr (inl found)) = subst (Proves lemma_environment no_program lemmas walk 1 []) found.1 calls
+    each : (s : Store) (su : SymbolicState) → IsAmong after_cases s su → Proves lemma_environment no_program lemmas walk 2 [] su
+    each s su (inl found) = subst (Proves lemma_environment no_program lemmas walk 2 []) found.1 (ends with_nil refl)
+    each s su (inr (inl found)) = subst (Proves lemma_environment no_program lemmas walk 2 []) found.1 visits
     each s su (inr (inr never)) = absurd never
 
-outcome : (s : Store) (st : SymbolicState) → IsAmong (record { store = names; state = begun } ∷ []) s st → Proves lemma_environment no_program lemmas walk 1 [] (record st { names = s })
-outcome s st (inl found) = subst (λ z. Proves lemma_environment no_program lemmas walk 1 [] (record z { names = s })) found.1 (subst (λ z. Proves lemma_environment no_program lemmas walk 1 [] (record begun { names = z })) found.0 body)
+outcome : (s : Store) (st : SymbolicState) → IsAmong (record { store = names; state = begun } ∷ []) s st → Proves lemma_environment no_program lemmas walk 2 [] (record st { names = s })
+outcome s st (inl found) = subst (λ z. Proves lemma_environment no_program lemmas walk 2 [] (record z { names = s })) found.1 (subst (λ z. Proves lemma_environment no_program lemmas walk 2 [] (record begun { names = z })) found.0 body)
 outcome s st (inr never) = absurd never
 
-pub walk_is_accepted : IsAcceptedLemma lemma_environment no_program lemmas 1 walk
+pub walk_is_accepted : IsAcceptedLemma lemma_environment no_program lemmas 2 walk
 walk_is_accepted = with_all (record { store = names; state = begun } ∷ []) (no_names names, inr (inl (refl, refl))) outcome
+
+-- ---- a lemma whose body has nothing
+abbrev visit_names : Store
+visit_names = call_store (symbol 0 ∷ [])
+
+abbrev visit_begun : SymbolicState
+visit_begun = record { locals = []; names = visit_names; chunks = []; path = OfSort (symbol 0) Integers ∷ of_thread ∷ Holds (Truth true) ∷ [] }
+
+visit_outcome : (s : Store) (st : SymbolicState) → IsAmong (record { store = visit_names; state = visit_begun } ∷ []) s st → Proves lemma_environment no_program lemmas visit 1 [] (record st { names = s })
+visit_outcome s st (inl found) = may_end (no_names s, is_true st.path, (ap (λ z. z.chunks) (sym found.1), λ x t fix is. is))
+visit_outcome s st (inr never) = absurd never
+
+pub visit_is_accepted : IsAcceptedLemma lemma_environment no_program lemmas 1 visit
+visit_is_accepted = with_all (record { store = visit_names; state = visit_begun } ∷ []) (no_names visit_names, inr (inl (refl, refl))) visit_outcome

@@ -12,13 +12,13 @@ use Rattle.vf_lemmas.specs.Proves.{AreAcceptedLemmas}
 use Rattle.vf_safety.specs.ArrayLaws.{numbers, take_name, drop_name, apply, take_fixpoint, drop_fixpoint, append_fixpoint, row, split_contract}
 use Rattle.vf_safety.specs.ElementLaws.{nth_name, set_name, apply_three, nth_fixpoint, set_fixpoint}
 use Rattle.vf_examples.specs.BoxProgram.{somewhere}
-use Rattle.vf_examples.specs.TwoLemmas.{no_program}
+use Rattle.vf_examples.specs.SmallLemmas.{no_program}
 
 -- `inductive ints_list = ints_nil | ints_cons(int, ints_list)`
 abbrev pub constructor_of : Identity → Option ConstructorTree
 constructor_of c =
-    cond (same_identity (codes "<vf_arrays.h>#ints_nil") c) (Some (record { datatype = codes "<vf_arrays.h>#ints_list"; arguments = [] }))
-    (cond (same_identity (codes "<vf_arrays.h>#ints_cons") c) (Some (record { datatype = codes "<vf_arrays.h>#ints_list"; arguments = Integers ∷ numbers ∷ [] })) None)
+    cond (same_identity (codes "<vf_arrays.h>#ints_nil") c) (Some (record { datatype = codes "<vf_arrays.h>#ints_list"; parameters = 0; arguments = [] }))
+    (cond (same_identity (codes "<vf_arrays.h>#ints_cons") c) (Some (record { datatype = codes "<vf_arrays.h>#ints_list"; parameters = 0; arguments = Integers ∷ numbers ∷ [] })) None)
 
 -- ---- the contracts
 -- `0 <= i &*& i < n`, where n and i have the numbers 1 and 2

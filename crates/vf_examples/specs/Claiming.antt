@@ -4,7 +4,7 @@ use Rattle.vf_base.specs.declared.int_type.IntType.TheVariants as types
 use Rattle.vf_tree.specs.Core.{Identity, Field, TypeTree, Integer, PointerToInt, PointerToStruct, Equal, LessEqual, Read, StepTree, Load, Return, FunctionTree, ProgramTree}
 use Rattle.vf_tree.specs.Core as core
 use Rattle.vf_model.specs.Values.{same_identity}
-use Rattle.vf_meaning.specs.Ghost.{Sort, Integers, Pointers, Datatype, Numbered, Result, ConstructorTree, GhostExpression, Variable, Number, Compare, Or}
+use Rattle.vf_meaning.specs.Ghost.{Sort, Integers, Pointers, Datatype, none, Numbered, Result, ConstructorTree, GhostExpression, Variable, Number, Compare, Or}
 use Rattle.vf_meaning.specs.Assertions.{PatternTree, Is, Names, Wild, Named, Assertion, Pure, Both, Cell, Chunk, BodyName, Plain, Instance, BodyTree, ContractTree, Environment}
 use Rattle.vf_rules.specs.Mutexes.{full, name}
 use Rattle.vf_safety.specs.Laws.{IsAcceptedProgram}
@@ -96,7 +96,7 @@ row v = Chunk full (Named ints) (Is (name 0) ∷ Is (name 1) ∷ v ∷ [])
 
 -- the type of the first: `requires ints(p, n, ?v); ensures ints(p, n, v) &*& 0 <= result;`
 abbrev pub counter_contract : ContractTree
-counter_contract = int_contract (Pointers ∷ Integers ∷ Datatype ints_list ∷ []) 2 (row (Names (Numbered 2))) (Both (row (Is (name 2))) (Pure (not_negative (Variable Result))))
+counter_contract = int_contract (Pointers ∷ Integers ∷ Datatype ints_list none ∷ []) 2 (row (Names (Numbered 2))) (Both (row (Is (name 2))) (Pure (not_negative (Variable Result))))
 
 -- `account(a, b)`, with a pattern for b
 abbrev pub holds_of : PatternTree → Assertion
@@ -143,8 +143,8 @@ ints_cons = codes "<vf_arrays.h>#ints_cons"
 -- `inductive ints_list = ints_nil | ints_cons(int, ints_list);`
 abbrev pub claiming_constructors : Identity → Option ConstructorTree
 claiming_constructors c =
-    cond (same_identity c ints_nil) (Some (record { datatype = ints_list; arguments = [] }))
-    (cond (same_identity c ints_cons) (Some (record { datatype = ints_list; arguments = Integers ∷ Datatype ints_list ∷ [] })) None)
+    cond (same_identity c ints_nil) (Some (record { datatype = ints_list; parameters = 0; arguments = [] }))
+    (cond (same_identity c ints_cons) (Some (record { datatype = ints_list; parameters = 0; arguments = Integers ∷ Datatype ints_list none ∷ [] })) None)
 
 -- a function claims its type
 abbrev pub claims_its_type : Identity → Identity → Bool

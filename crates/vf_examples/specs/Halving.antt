@@ -7,7 +7,7 @@ use Rattle.vf_meaning.specs.Assertions.{ShareTree, Times, Taken, Is, Named, Asse
 use Rattle.vf_rules.specs.Mutexes.{name}
 use Rattle.vf_rules.specs.Lemmas.{OnDepth, LemmaTree}
 use Rattle.vf_lemmas.specs.Proves.{AreAcceptedLemmas}
-use Rattle.vf_examples.specs.TwoLemmas.{no_program}
+use Rattle.vf_examples.specs.SmallLemmas.{no_program}
 use Rattle.vf_examples.specs.Nesting.{nested, nesting}
 
 -- half of f, where f has the number 1

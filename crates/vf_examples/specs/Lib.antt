@@ -1,6 +1,6 @@
 pub mod HeldMutex
 pub mod KeptCalls
-pub mod TwoLemmas
+pub mod SmallLemmas
 pub mod Nesting
 pub mod Halving
 pub mod BoxProgram

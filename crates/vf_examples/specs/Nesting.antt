@@ -7,7 +7,7 @@ use Rattle.vf_meaning.specs.Assertions.{Is, Named, Assertion, Pure, Empty, Choos
 use Rattle.vf_rules.specs.Mutexes.{full, name}
 use Rattle.vf_rules.specs.Lemmas.{OnDepth, LemmaTree}
 use Rattle.vf_lemmas.specs.Proves.{AreAcceptedLemmas}
-use Rattle.vf_examples.specs.TwoLemmas.{no_program}
+use Rattle.vf_examples.specs.SmallLemmas.{no_program}
 
 -- a predicate's identity
 abbrev pub nested : Identity

@@ -3,9 +3,10 @@
 ghost use Rattle.vf_examples.specs.ArrayCalls.{SplittingIsAccepted};
 ghost use Rattle.vf_examples.specs.Halving.{HalvingIsAccepted};
 ghost use Rattle.vf_examples.specs.Nesting.{NestingIsAccepted};
-ghost use Rattle.vf_examples.specs.TwoLemmas.{LemmasAreAccepted};
+ghost use Rattle.vf_examples.specs.SmallLemmas.{LemmasAreAccepted};
 
-/// A lemma that opens a predicate and closes it again, and one that calls itself with the rest of a list, are accepted.
+/// A lemma that opens a predicate and closes it again, and one that calls itself with the rest of a `list<int>`, whose
+/// first element it passes for an int, are accepted.
 pub fn lemmas_are_accepted()
     ensures { LemmasAreAccepted }
 {}

@@ -1,4 +1,4 @@
-use Rattle.vf_examples.proofs.TwoLemmas.{lemmas_are_accepted}
+use Rattle.vf_examples.proofs.SmallLemmas.{lemmas_are_accepted}
 use Rattle.vf_examples.proofs.lemmas.lemmas_are_accepted.Goals as goal
 
 pub returns : goal.returns

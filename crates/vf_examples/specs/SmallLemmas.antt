@@ -1,8 +1,8 @@
--- Two lemmas that are accepted: one opens a predicate and closes it again, the other goes through a list by calling itself with the rest of it.
+-- Small lemmas that are accepted: one opens a predicate and closes it again, one takes a number, and one goes through a list of numbers by calling the second with the first of it, and itself with the rest.
 use Rattle.std.specs.Prelude.{true, false, cond, List, [], ◌∷◌, Option, Some, None, codes}
 use Rattle.vf_tree.specs.Core.{Identity, Field, ProgramTree}
 use Rattle.vf_model.specs.Values.{same_identity}
-use Rattle.vf_meaning.specs.Ghost.{Sort, Integers, Pointers, Datatype, Numbered, ConstructorTree, Truth}
+use Rattle.vf_meaning.specs.Ghost.{Sort, Integers, Pointers, Parameter, Datatype, none, more, Numbered, ConstructorTree, Truth}
 use Rattle.vf_meaning.specs.Assertions.{Is, Wild, Named, Assertion, Pure, Empty, Switch, Cell, Chunk, no_branches, branch, BodyName, Plain, Instance, BodyTree, Environment}
 use Rattle.vf_rules.specs.Mutexes.{full, name}
 use Rattle.vf_rules.specs.Lemmas.{OnArgument, LemmaTree}
@@ -37,11 +37,15 @@ nil_name = codes "one.c#nil"
 abbrev pub cons_name : Identity
 cons_name = codes "one.c#cons"
 
--- `inductive list = nil | cons(int, list)`
+-- `inductive list<t> = nil | cons(t, list<t>)`
 abbrev pub constructor_of : Identity → Option ConstructorTree
 constructor_of c =
-    cond (same_identity nil_name c) (Some (record { datatype = list_name; arguments = [] }))
-    (cond (same_identity cons_name c) (Some (record { datatype = list_name; arguments = Integers ∷ Datatype list_name ∷ [] })) None)
+    cond (same_identity nil_name c) (Some (record { datatype = list_name; parameters = 1; arguments = [] }))
+    (cond (same_identity cons_name c) (Some (record { datatype = list_name; parameters = 1; arguments = Parameter 0 ∷ Datatype list_name (more (Parameter 0) none) ∷ [] })) None)
+
+-- the sort `list<int>`
+abbrev pub ints : Sort
+ints = Datatype list_name (more Integers none)
 
 -- what is declared
 abbrev pub lemma_environment : Environment
@@ -81,16 +85,24 @@ cases_of_list = Switch (name 0) (branch nil_name [] Empty (branch cons_name (Num
 
 -- the sorts of the list, its head and its rest
 abbrev pub sorts_of_cases : List Sort
-sorts_of_cases = Datatype list_name ∷ Integers ∷ Datatype list_name ∷ []
+sorts_of_cases = ints ∷ Integers ∷ ints ∷ []
 
--- `lemma void walk(list xs) requires true; ensures true; { switch (xs) { case nil: case cons(x, rest): walk(rest); } }`
-abbrev pub walk : LemmaTree
-walk = record {
-  identity = codes "one.c#walk";
-  contract = record { sorts = Datatype list_name ∷ []; parameters = 1; result = None; requires_this = Pure (Truth true); ensures_this = Pure (Truth true) };
+-- `lemma void visit(int x) requires true; ensures true; { }`
+abbrev pub visit : LemmaTree
+visit = record {
+  identity = codes "one.c#visit";
+  contract = record { sorts = Integers ∷ []; parameters = 1; result = None; requires_this = Pure (Truth true); ensures_this = Pure (Truth true) };
   falls = OnArgument 0;
 }
 
--- both are accepted
+-- `lemma void walk(list<int> xs) requires true; ensures true; { switch (xs) { case nil: case cons(x, rest): visit(x); walk(rest); } }`
+abbrev pub walk : LemmaTree
+walk = record {
+  identity = codes "one.c#walk";
+  contract = record { sorts = ints ∷ []; parameters = 1; result = None; requires_this = Pure (Truth true); ensures_this = Pure (Truth true) };
+  falls = OnArgument 0;
+}
+
+-- the three of them are accepted
 abbrev pub LemmasAreAccepted : Type 0
-LemmasAreAccepted = AreAcceptedLemmas lemma_environment no_program (reopen ∷ walk ∷ [])
+LemmasAreAccepted = AreAcceptedLemmas lemma_environment no_program (reopen ∷ visit ∷ walk ∷ [])
