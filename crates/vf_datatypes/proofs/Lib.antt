@@ -4,4 +4,5 @@ pub mod Loops
 pub mod Spelled
 pub mod Parameters
 pub mod Bases
+pub mod Told
 pub mod Values

@@ -1,11 +1,8 @@
 -- What is declared behind a datatype, or its first refusal in the order of the text.
-use Rattle.std.specs.Prelude.{ℕ, ◌+◌, Bool, false, not, nat_eq, if◌then◌else◌, List, [], ◌∷◌, ◌++◌, length, drop, Result, Ok, Err}
-use Rattle.std.specs.List.{list_any}
+use Rattle.std.specs.Prelude.{ℕ, ◌+◌, if◌then◌else◌, List, [], ◌∷◌, ◌++◌, length, drop, Result, Ok, Err}
 use Rattle.vf_base.specs.declared.refusal.Refusal.{Refusal}
 use Rattle.vf_base.specs.declared.rule.Rule.TheVariants as rules
-use Rattle.vf_sorts.specs.declared.sort.Head.TheVariants as heads
-use Rattle.vf_sorts.specs.Sorts.{Sort, sort}
-use Rattle.vf_declared.specs.declared.declaration.GhostDeclaration.{GhostDeclaration}
+use Rattle.vf_sorts.specs.Sorts.{Sort}
 use Rattle.vf_declared.specs.declared.declaration.GhostDeclaration.TheVariants as ghosts
 use Rattle.vf_declared.specs.declared.declaration.Meaning.TheVariants as meanings
 use Rattle.vf_declared.specs.declared.scope.Scope.{Scope}
@@ -17,6 +14,7 @@ use Rattle.vf_datatypes.specs.declared.stated.Stated.{Stated}
 use Rattle.vf_datatypes.specs.declared.own.Own.{Own}
 use Rattle.vf_datatypes.specs.Arguments.{sorts_within}
 use Rattle.vf_datatypes.specs.NewNames.{name_refusal, parameters_behind}
+use Rattle.vf_datatypes.specs.Inhabited.{is_inhabited}
 use Rattle.vf_datatypes.specs.Walking.{behind, unless}
 
 -- a name that annotations declare at file level by the next number, in front of what it is
@@ -36,26 +34,18 @@ abbrev pub constructors_behind : Stated → Own → List Written → Scope → R
 constructors_behind d o [] s = Ok s
 constructors_behind d o (c ∷ cs) s = behind (constructors_behind d o cs) (constructor_behind d o c s)
 
--- a sort is that of a datatype by its number
-abbrev pub is_datatype : ℕ → Sort → Bool
-is_datatype d (sort (heads.Datatype k) ts) = nat_eq k d
-is_datatype d t = false
-
--- a constructor builds a value of its datatype, by its number, from values of other sorts alone
-abbrev pub is_base : ℕ → GhostDeclaration → Bool
-is_base d (ghosts.Constructor k) = not (list_any (is_datatype d) k.arguments)
-is_base d g = false
-
 -- numbers from one on, as many as there are items in a list
 abbrev pub numbers_from : {A : Type 0} → ℕ → List A → List ℕ
 numbers_from n [] = []
 numbers_from n (x ∷ xs) = n ∷ numbers_from (n + 1) xs
 
--- the datatype is complete: it has a value, every other sort being taken to have one
+-- a datatype with the constructors that were declared from a number on
+abbrev pub with_datatype : Scope → Own → ℕ → Scope
+with_datatype s o first = record s { datatypes = s.datatypes ++ (record { parameters = length o.parameters; constructors = numbers_from first (drop first s.ghosts) }) ∷ [] }
+
+-- the datatype is complete: it has a value
 abbrev pub complete : Own → ℕ → Scope → Result Scope Refusal
-complete o first s = if list_any (is_base o.number) (drop first s.ghosts)
-    then Ok (record s { datatypes = s.datatypes ++ (record { parameters = length o.parameters; constructors = numbers_from first (drop first s.ghosts) }) ∷ [] })
-    else Err (refused rules.Inductive o.place)
+complete o first s = if is_inhabited (with_datatype s o first) o.number then Ok (with_datatype s o first) else Err (refused rules.Inductive o.place)
 
 -- a datatype's name, in front of its constructors
 abbrev pub begun : Scope → Name → Scope

@@ -1,5 +1,5 @@
 pub mod Walking
 pub mod NewNames
 pub mod Arguments
-pub mod Datatypes
 pub mod Inhabited
+pub mod Datatypes

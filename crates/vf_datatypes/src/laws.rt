@@ -2,8 +2,8 @@
 
 ghost use Rattle.vf_datatypes.specs.Inhabited.{ValuesAreBuilt};
 
-/// A datatype has a value, every other sort being taken to have one, exactly where one of its constructors takes none
-/// of its own values.
+/// Where the datatypes of a unit stand in order, as they are accepted, each sort over them has a value, every sort but
+/// a datatype being taken to have one.
 pub fn values_are_built()
     ensures { ValuesAreBuilt }
 {}

@@ -7,14 +7,15 @@
 //! In `specs/`: what is declared behind a datatype, or its first refusal in the order of the text: its name, type
 //! parameters and constructors, the sorts of their arguments, which may use the datatype itself at its own parameters
 //! in order and datatypes that stand before it, and that it has a value. `declare_datatype` leaves the scope that the
-//! definition gives, or answers its refusal, unless memory ran out. Law: `values_are_built` (a datatype has a value,
-//! every other sort being taken to have one, exactly where one of its constructors takes none of its own values).
+//! definition gives, or answers its refusal, unless memory ran out. Law: `values_are_built` (where the datatypes of a unit
+//! stand in order, as they are accepted, each sort over them has a value).
 #![tactic(auto)]
 
 mod arguments;
 mod constructors;
 mod datatype;
 pub mod declaring;
+mod inhabited;
 pub mod laws;
 pub mod names;
 mod own;

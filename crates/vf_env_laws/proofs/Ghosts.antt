@@ -1,6 +1,5 @@
 -- Ghost items but lemmas bring their names.
 use Rattle.std.proofs.Common.{◌≡◌, refl, sym, ℕ, Bool, true, false, if◌then◌else◌, List, [], ◌∷◌, length, drop, map, is_some, Option, Some, None, Ok}
-use Rattle.std.specs.List.{list_any}
 use Rattle.vf_base.specs.declared.refusal.Refusal.{Refusal}
 use Rattle.vf_names.specs.Names.{number_of}
 use Rattle.vf_sorts.specs.Sorts.{Sort}
@@ -24,7 +23,8 @@ use Rattle.vf_asserting.specs.Leaving.{count}
 use Rattle.vf_datatypes.specs.declared.stated.Stated.{Stated}
 use Rattle.vf_datatypes.specs.declared.own.Own.{Own}
 use Rattle.vf_datatypes.specs.Arguments.{sorts_within}
-use Rattle.vf_datatypes.specs.Datatypes.{begun, body_behind, complete, constructor_behind, constructors_behind, datatype_behind, is_base, own, with_constructor, with_next}
+use Rattle.vf_datatypes.specs.Datatypes.{begun, body_behind, complete, constructor_behind, constructors_behind, datatype_behind, own, with_constructor, with_datatype, with_next}
+use Rattle.vf_datatypes.specs.Inhabited.{is_inhabited}
 use Rattle.vf_datatypes.specs.NewNames.{name_refusal, names_c}
 use Rattle.vf_datatypes.specs.NewNames as names
 use Rattle.vf_datatypes.specs.Walking.{behind}
@@ -122,7 +122,7 @@ constructors_bring d o (c ∷ cs) t a =
     (λ u h v e. brings_both h (constructors_bring d o cs u h.beside v e))
 
 complete_keeps : (o : Own) (first : ℕ) (t : Scope) → Comes (Keeps t) (complete o first t)
-complete_keeps o first t = if_comes (Keeps t) (list_any (is_base o.number) (drop first t.ghosts)) _ _ (λ e. record { names = refl; tags = refl; count = refl })
+complete_keeps o first t = if_comes (Keeps t) (is_inhabited (with_datatype t o first) o.number) _ _ (λ e. record { names = refl; tags = refl; count = refl })
 
 body_brings : (d : Stated) (cs : List Constructor) (t : Scope) (o : Own) → IsBeside t → Comes (Brings (map constructor_name cs) [] t) (body_behind d cs t o)
 body_brings d cs t o a =

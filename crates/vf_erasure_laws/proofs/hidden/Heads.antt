@@ -1,6 +1,5 @@
 -- What ghost items without assertions declare is not seen by C text.
 use Rattle.std.proofs.Common.{◌≡◌, refl, ◌∙◌, ℕ, Bool, true, false, if◌then◌else◌, List, [], ◌∷◌, length, drop, Ok, Err}
-use Rattle.std.specs.List.{list_any}
 use Rattle.vf_base.specs.declared.refusal.Refusal.{Refusal}
 use Rattle.vf_sorts.specs.Sorts.{Sort}
 use Rattle.vf_declared.specs.declared.declaration.GhostDeclaration.{GhostDeclaration}
@@ -15,7 +14,8 @@ use Rattle.vf_asserting.specs.Leaving.{count}
 use Rattle.vf_datatypes.specs.declared.stated.Stated.{Stated}
 use Rattle.vf_datatypes.specs.declared.own.Own.{Own}
 use Rattle.vf_datatypes.specs.Arguments.{sorts_within}
-use Rattle.vf_datatypes.specs.Datatypes.{begun, body_behind, complete, constructor_behind, constructors_behind, datatype_behind, is_base, own, with_constructor, with_next}
+use Rattle.vf_datatypes.specs.Datatypes.{begun, body_behind, complete, constructor_behind, constructors_behind, datatype_behind, own, with_constructor, with_datatype, with_next}
+use Rattle.vf_datatypes.specs.Inhabited.{is_inhabited}
 use Rattle.vf_datatypes.specs.NewNames.{name_refusal}
 use Rattle.vf_datatypes.specs.NewNames as names
 use Rattle.vf_datatypes.specs.Walking.{behind}
@@ -124,7 +124,7 @@ complete_if {s = s} true t u r h e b l n d = ok_comes (IsBeside s) (behind_too u
 complete_if {s = s} false t u r h e b l n d = λ v f. absurd (apart f)
 
 complete_comes : {s : Scope} (o : Own) (first : ℕ) (t : Scope) → IsBeside s t → Comes (IsBeside s) (complete o first t)
-complete_comes {s = s} o first t h = complete_if (list_any (is_base o.number) (drop first t.ghosts)) t _ _ h.0 h.1 refl refl refl refl
+complete_comes {s = s} o first t h = complete_if (is_inhabited (with_datatype t o first) o.number) t _ _ h.0 h.1 refl refl refl refl
 
 body_comes : {s : Scope} (d : Stated) (cs : List Constructor) (t : Scope) (o : Own) → IsBeside s t → Comes (IsBeside s) (body_behind d cs t o)
 body_comes {s = s} d cs t o h = behind_comes (IsBeside s) (IsBeside s) (complete o (length t.ghosts)) (constructors_behind d o cs t) (constructors_come d o cs t h) (λ u j. complete_comes o (length t.ghosts) u j)

@@ -1,6 +1,5 @@
 -- Ghost items but lemmas add to what is declared.
 use Rattle.std.proofs.Common.{◌≡◌, refl, sym, subst, ◌∙◌, ap, ℕ, suc, ◌+◌, ◌≤◌, Bool, true, false, if◌then◌else◌, List, [], ◌∷◌, ◌++◌, length, length-append, drop, map, is_some, Option, Some, None, Ok, arith}
-use Rattle.std.specs.List.{list_any}
 use Rattle.vf_base.specs.declared.refusal.Refusal.{Refusal}
 use Rattle.vf_names.specs.Names.{number_of}
 use Rattle.vf_sorts.specs.Sorts.{Sort}
@@ -31,7 +30,8 @@ use Rattle.vf_asserting.specs.Leaving.{count}
 use Rattle.vf_datatypes.specs.declared.stated.Stated.{Stated}
 use Rattle.vf_datatypes.specs.declared.own.Own.{Own}
 use Rattle.vf_datatypes.specs.Arguments.{sorts_within}
-use Rattle.vf_datatypes.specs.Datatypes.{begun, body_behind, complete, constructor_behind, constructors_behind, datatype_behind, is_base, numbers_from, own, with_constructor, with_next}
+use Rattle.vf_datatypes.specs.Datatypes.{begun, body_behind, complete, constructor_behind, constructors_behind, datatype_behind, numbers_from, own, with_constructor, with_datatype, with_next}
+use Rattle.vf_datatypes.specs.Inhabited.{is_inhabited}
 use Rattle.vf_datatypes.specs.NewNames.{name_refusal, names_c}
 use Rattle.vf_datatypes.specs.NewNames as names
 use Rattle.vf_datatypes.specs.Walking.{behind}
@@ -117,7 +117,7 @@ one_longer xs ys y e = let h = length-append ys (y ∷ []) in let k : length ys 
 complete_ends : (s : Scope) → s.locals ≡ no_locals → (o : Own) (first : ℕ) (t : Scope) → Adds (suc (length s.datatypes)) s t → Comes (Completes s) (complete o first t)
 complete_ends s a o first t h =
     let d : Datatype = record { parameters = length o.parameters; constructors = numbers_from first (drop first t.ghosts) } in
-    if_comes (Completes s) (list_any (is_base o.number) (drop first t.ghosts)) _ _
+    if_comes (Completes s) (is_inhabited (with_datatype t o first) o.number) _ _
     (λ e. subst (λ m. Ends m s (record t { datatypes = t.datatypes ++ d ∷ [] })) (one_longer s.datatypes t.datatypes d h.datatypes) (record { grows = grows_both h.grows (grows_datatype (suc (length s.datatypes)) t d); locals = h.locals ∙ a }))
 
 body_ends : (s : Scope) → s.locals ≡ no_locals → (d : Stated) (cs : List Constructor) (t : Scope) (o : Own) → Adds (suc (length s.datatypes)) s t → suc o.number ≤ suc (length s.datatypes) → Comes (Completes s) (body_behind d cs t o)

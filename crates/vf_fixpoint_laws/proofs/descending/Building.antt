@@ -1,6 +1,5 @@
 -- What a datatype adds to what is declared: its name, and behind it its constructors in order.
 use Rattle.std.proofs.Common.{◌≡◌, refl, sym, ap, subst, ◌∙◌, ℕ, zero, suc, ◌+◌, ◌≤◌, Bool, true, false, if◌then◌else◌, List, [], ◌∷◌, ◌++◌, length, length-append, map, append_assoc, append-nil, drop, slice_get, Option, Some, None, is_some, arith}
-use Rattle.std.specs.List.{list_any}
 use Rattle.std.proofs.lemmas.List.{length-map, map-append}
 use Rattle.vf_base.specs.declared.refusal.Refusal.{Refusal}
 use Rattle.vf_names.specs.Names.{number_of}
@@ -16,7 +15,8 @@ use Rattle.vf_syntax.specs.declared.written.Name.{Name}
 use Rattle.vf_datatypes.specs.declared.own.Own.{Own}
 use Rattle.vf_datatypes.specs.declared.stated.Stated.{Stated}
 use Rattle.vf_datatypes.specs.Arguments.{sorts_within}
-use Rattle.vf_datatypes.specs.Datatypes.{begun, body_behind, complete, constructor_behind, constructors_behind, datatype_behind, is_base, numbers_from, own, with_constructor, with_next}
+use Rattle.vf_datatypes.specs.Datatypes.{begun, body_behind, complete, constructor_behind, constructors_behind, datatype_behind, numbers_from, own, with_constructor, with_datatype, with_next}
+use Rattle.vf_datatypes.specs.Inhabited.{is_inhabited}
 use Rattle.vf_datatypes.specs.NewNames.{name_refusal, names_c}
 use Rattle.vf_datatypes.specs.NewNames as names
 use Rattle.vf_datatypes.specs.Walking.{behind}
@@ -143,7 +143,7 @@ complete_built : (n : Name) (cs : List Written) (s : Scope) → number_of s.name
 complete_built n cs s new o first t h =
     let d : Datatype = record { parameters = length o.parameters; constructors = numbers_from first (drop first t.ghosts) } in
     let more : length (s.ghosts ++ ghosts.Datatype (length s.datatypes) ∷ []) ≡ suc (length s.ghosts) = one_more s.ghosts (ghosts.Datatype (length s.datatypes)) in
-    if_comes (Builds n cs s) (list_any (is_base o.number) (drop first t.ghosts)) _ _
+    if_comes (Builds n cs s) (is_inhabited (with_datatype t o first) o.number) _ _
     (λ e. record {
       new = new;
       names = h.names ∙ append_assoc s.names (n.text ∷ []) (names_of cs);

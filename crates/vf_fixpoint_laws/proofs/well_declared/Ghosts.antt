@@ -1,6 +1,5 @@
 -- What ghost items but lemmas declare at file level.
 use Rattle.std.proofs.Common.{◌≡◌, refl, sym, subst, ◌∙◌, ℕ, Bool, true, false, if◌then◌else◌, List, [], ◌∷◌, ◌++◌, length, drop, is_some, Option, Some, None, Ok}
-use Rattle.std.specs.List.{list_any}
 use Rattle.vf_base.specs.declared.refusal.Refusal.{Refusal}
 use Rattle.vf_names.specs.Names.{number_of}
 use Rattle.vf_sorts.specs.Sorts.{Sort}
@@ -25,7 +24,8 @@ use Rattle.vf_asserting.specs.Leaving.{count}
 use Rattle.vf_datatypes.specs.declared.stated.Stated.{Stated}
 use Rattle.vf_datatypes.specs.declared.own.Own.{Own}
 use Rattle.vf_datatypes.specs.Arguments.{sorts_within}
-use Rattle.vf_datatypes.specs.Datatypes.{begun, body_behind, complete, constructor_behind, constructors_behind, datatype_behind, is_base, numbers_from, own, with_constructor, with_next}
+use Rattle.vf_datatypes.specs.Datatypes.{begun, body_behind, complete, constructor_behind, constructors_behind, datatype_behind, numbers_from, own, with_constructor, with_datatype, with_next}
+use Rattle.vf_datatypes.specs.Inhabited.{is_inhabited}
 use Rattle.vf_datatypes.specs.NewNames.{name_refusal, names_c}
 use Rattle.vf_datatypes.specs.NewNames as names
 use Rattle.vf_datatypes.specs.Walking.{behind}
@@ -118,7 +118,7 @@ record Completes (m : ℕ) (t u : Scope) : Type 0 where
   is : core u ≡ record (core t) { datatypes = t.datatypes ++ datatype ∷ [] }
 
 complete_is : (o : Own) (first : ℕ) (t : Scope) → Comes (Completes (length o.parameters) t) (complete o first t)
-complete_is o first t = if_comes (Completes (length o.parameters) t) (list_any (is_base o.number) (drop first t.ghosts)) _ _ (λ e. record { datatype = record { parameters = length o.parameters; constructors = numbers_from first (drop first t.ghosts) }; counted = refl; is = refl })
+complete_is o first t = if_comes (Completes (length o.parameters) t) (is_inhabited (with_datatype t o first) o.number) _ _ (λ e. record { datatype = record { parameters = length o.parameters; constructors = numbers_from first (drop first t.ghosts) }; counted = refl; is = refl })
 
 record Builds (d m : ℕ) (t u : Scope) : Type 0 where
   built : Scope

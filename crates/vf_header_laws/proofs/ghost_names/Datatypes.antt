@@ -1,6 +1,6 @@
 -- Datatypes that stand in a header, and are accepted in two units, are the same in both.
 use Rattle.std.proofs.Common.{◌≡◌, refl, sym, ap, subst, ◌∙◌, ℕ, ◌+◌, true, List, [], ◌∷◌, ◌++◌, length, drop, append_assoc, append-nil, length-append, Some, slice_get, Ok}
-use Rattle.std.specs.List.{list_all, list_any}
+use Rattle.std.specs.List.{list_all}
 use Rattle.std.proofs.lemmas.Bool.{and_parts}
 use Rattle.vf_base.specs.declared.rule.Rule.TheVariants as rules
 use Rattle.vf_sorts.specs.Sorts.{Sort}
@@ -17,7 +17,9 @@ use Rattle.vf_asserting.specs.Cases.{ghost_number}
 use Rattle.vf_datatypes.specs.declared.own.Own.{Own}
 use Rattle.vf_datatypes.specs.declared.stated.Stated.{Stated}
 use Rattle.vf_datatypes.specs.Arguments.{sorts_within}
-use Rattle.vf_datatypes.specs.Datatypes.{begun, body_behind, complete, constructor_behind, constructors_behind, datatype_behind, is_base, numbers_from, own, with_constructor, with_next}
+use Rattle.vf_datatypes.specs.Datatypes.{begun, body_behind, complete, constructor_behind, constructors_behind, datatype_behind, numbers_from, own, with_constructor, with_next}
+use Rattle.vf_datatypes.specs.Datatypes as datatypes
+use Rattle.vf_datatypes.specs.Inhabited.{is_inhabited}
 use Rattle.vf_datatypes.specs.NewNames.{name_refusal}
 use Rattle.vf_datatypes.specs.NewNames as names
 use Rattle.vf_datatypes.specs.Walking.{behind}
@@ -98,7 +100,7 @@ is_datatype d n ns cs s h =
       written = j.first;
       at = k.at;
       constructors = k.first;
-      is = (refused_unless (with_datatype k.at (record { parameters = length j.at; constructors = numbers_from (length s₁.ghosts) (drop (length s₁.ghosts) k.at.ghosts) })) (refused rules.Inductive n.place) (list_any (is_base o.number) (drop (length s₁.ghosts) k.at.ghosts)) k.next).is;
+      is = (refused_unless (with_datatype k.at (record { parameters = length j.at; constructors = numbers_from (length s₁.ghosts) (drop (length s₁.ghosts) k.at.ghosts) })) (refused rules.Inductive n.place) (is_inhabited (datatypes.with_datatype k.at o (length s₁.ghosts)) o.number) k.next).is;
     }
 
 -- ---- constructors of both units

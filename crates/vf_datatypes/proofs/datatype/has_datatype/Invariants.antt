@@ -1,8 +1,0 @@
-use Rattle.std.proofs.Common.{◌≡◌, drop}
-use Rattle.std.specs.List.{list_any}
-use Rattle.vf_datatypes.specs.Datatypes.{is_datatype}
-use Rattle.vf_datatypes.proofs.datatype.has_datatype.Given as goal
-
--- those that are left tell what all of them tell
-abbrev pub invariant-loop-at : goal.invariant-loop-at
-invariant-loop-at l = list_any (is_datatype l.fn.datatype) (drop l.at l.fn.sorts) ≡ list_any (is_datatype l.fn.datatype) l.fn.sorts
