@@ -1,6 +1,7 @@
 //! What is called by a number in a unit, as the core of whole programs has it.
 
 ghost use Rattle.std.specs.Prelude.{◌≡◌, ◌<◌, length, map, IfOk, slice_get};
+ghost use Rattle.std.specs.Option.{option_copied};
 ghost use Rattle.vf_core.specs.Shown.{field_of, identity_of, signature_of, type_of};
 ghost use Rattle.vf_steps.specs.Core.{field_tree, identity_at, signature_tree, type_tree};
 ghost use Rattle.vf_flow.specs.Named.{identities, naming_of};
@@ -11,6 +12,7 @@ use std::alloc::Global;
 use vf_base::{Memory, Sequence, Text};
 use vf_core::{Field, Name, Scalar, Signature};
 use vf_declared::ctype::CType;
+use vf_declared::declaration;
 use vf_steps::FieldNumber;
 
 /// The name at an index of a list, and one that stands for no text where there is none.
@@ -74,7 +76,11 @@ impl Naming<'_> {
     }
 
     /// Types in order.
-    fn scalars(&self, alloc: Global, types: &Sequence<CType>) -> Result<Sequence<Scalar>, Memory>
+    pub fn scalars(
+        &self,
+        alloc: Global,
+        types: &Sequence<CType>,
+    ) -> Result<Sequence<Scalar>, Memory>
         ensures { IfOk result (λ ts. map (type_of self.now.names.now) ts ≡ map (type_tree (naming_of self.now)) types.now) }
     {
         let mut scalars = Sequence::new(alloc);
@@ -84,11 +90,15 @@ impl Naming<'_> {
         Ok(scalars)
     }
 
-    /// The signature of a function type, and one of nothing where there is no such type.
-    pub fn signature(&self, alloc: Global, number: usize) -> Result<Signature, Memory>
-        ensures { IfOk result (λ s. signature_of self.now.names.now s ≡ signature_tree (naming_of self.now) (slice_get (naming_of self.now).signatures number)) }
+    /// A signature, and one of nothing where there is none.
+    pub fn signature(
+        &self,
+        alloc: Global,
+        signature: Option<&declaration::Signature>,
+    ) -> Result<Signature, Memory>
+        ensures { IfOk result (λ s. signature_of self.now.names.now s ≡ signature_tree (naming_of self.now) (option_copied signature.entry)) }
     {
-        match self.signatures.get(number) {
+        match signature {
             Some(signature) => Ok(Signature {
                 gives: self.scalar(signature.result),
                 parameters: self.scalars(alloc, &signature.parameters)?,
@@ -98,5 +108,12 @@ impl Naming<'_> {
                 parameters: Sequence::new(alloc),
             }),
         }
+    }
+
+    /// The signature of the function type with a number, and one of nothing where there is no such type.
+    pub fn function_type_signature(&self, alloc: Global, number: usize) -> Result<Signature, Memory>
+        ensures { IfOk result (λ s. signature_of self.now.names.now s ≡ signature_tree (naming_of self.now) (slice_get (naming_of self.now).signatures number)) }
+    {
+        self.signature(alloc, self.signatures.get(number))
     }
 }

@@ -161,7 +161,7 @@ pub fn core_step(
         } => Ok(Some(CoreStep::CallPointer {
             target: optional_local(*target)?,
             pointer: expression(alloc, naming, pointer)?,
-            signature: naming.signature(alloc, *function_type)?,
+            signature: naming.function_type_signature(alloc, *function_type)?,
             arguments: expressions(alloc, naming, arguments)?,
             place: *place,
             next,

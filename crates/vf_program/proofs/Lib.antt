@@ -1,0 +1,3 @@
+pub mod Standing
+pub mod Merging
+pub mod Finding
