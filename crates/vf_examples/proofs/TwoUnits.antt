@@ -19,7 +19,7 @@ use Rattle.vf_linked.proofs.Linked.{linked_programs_leak_nothing}
 use Rattle.vf_examples.specs.TwoUnits.{seven_name, again_name, seven_own, again_own, again_prototype, again_seen, main_name, main_own, main, main_contracts, first_unit, second_unit, two_units, both_units, two_program, TwoUnitsAreAccepted}
 use Rattle.vf_examples.proofs.Defined.{only_defined}
 use Rattle.vf_examples.proofs.SharingFacts.{none_some, nothing_bound, some_same}
-use Rattle.vf_examples.proofs.TwoUnitsFacts.{true_holds, none_inhabited}
+use Rattle.vf_examples.proofs.TwoUnitsFacts.{none_inhabited}
 use Rattle.vf_examples.proofs.TwoUnitsLemma.{again_keeps}
 use Rattle.vf_examples.proofs.TwoUnitsMain.{main_accepted}
 use Rattle.vf_examples.proofs.TwoUnitsSeven.{seven_keeps}
@@ -151,7 +151,7 @@ program hold = record {
   is_own = refl;
   has = record { known = inl refl; parameters = refl; fewer = omega arith; inhabited = none_inhabited };
   alone = refl;
-  begins = no_step (λ x t is. is, (nothing_bound (call_store []), true_holds [], refl));
+  begins = no_step (λ x t is. is, (nothing_bound (call_store []), record { by = λ v m. refl }, refl));
 }
 
 accepted : IsAcceptedLinked two_units both_units two_program

@@ -1,8 +1,8 @@
 -- The lemma of the first unit is accepted under the contract of its definition, which refines that of its prototype.
-use Rattle.std.proofs.Common.{◌≡◌, zero, suc, true, List, [], ◌∷◌, refl, subst, inl, inr}
-use Rattle.vf_meaning.specs.Ghost.{Truth}
+use Rattle.std.proofs.Common.{◌≡◌, true, List, [], ◌∷◌, refl, subst, inl, inr}
+use Rattle.vf_meaning.specs.Ghost.{Integers, CurrentThread, Variable, Truth}
 use Rattle.vf_meaning.specs.Assertions.{Named, Plain, ContractTree}
-use Rattle.vf_rules.specs.States.{Holds, SymbolicState, assuming, with_chunk, with_chunks}
+use Rattle.vf_rules.specs.States.{Holds, OfSort, SymbolicState, assuming, with_chunk, with_chunks}
 use Rattle.vf_rules.specs.Take.{takes_all, no_change}
 use Rattle.vf_rules.specs.Laws.{Outcome}
 use Rattle.vf_rules.specs.Predicates.{store_of, HasBody, closed, Opens, Closes}
@@ -13,7 +13,7 @@ use Rattle.vf_lemmas.specs.Proves.{Proves, may_end, may_open, may_close, lemma_b
 use Rattle.vf_linked.specs.Refined.{Ends, StandsIn, RefinesLemma}
 use Rattle.vf_linked.specs.Lemmas.{LemmaKeepsContracts}
 use Rattle.vf_examples.specs.TwoUnits.{done_name, done_body, again_name, again_own, again_prototype, again, both_units, two_program}
-use Rattle.vf_examples.proofs.SharingFacts.{among_one, call_fixed, nothing_bound, same_self, some_same, whole_fraction}
+use Rattle.vf_examples.proofs.SharingFacts.{among_one, by_place, call_fixed, nothing_bound, same_self, some_same, whole_fraction}
 use Rattle.vf_examples.proofs.TwoUnitsFacts.{written, done_chunk, closed_is_written, true_holds, none_sorted, none_inhabited}
 
 abbrev lemmas : List LemmaTree
@@ -103,6 +103,7 @@ stands_in = record {
     inhabited = none_inhabited;
     number = refl;
     of_sorts = none_sorted wanted.path [];
+    thread = by_place both_units wanted.path 0 (OfSort (Variable CurrentThread) Integers) refl;
     consumed = (
       nothing_bound (call_store []),
       (

@@ -1,10 +1,10 @@
 -- Main of the second unit is accepted: it calls the function and the lemma of the first unit by the contracts of their prototypes.
-use Rattle.std.proofs.Common.{zero, suc, true, [], ◌∷◌, Some, refl, inl, inr, arith}
+use Rattle.std.proofs.Common.{true, [], ◌∷◌, Some, refl, inl, inr, arith}
 use Rattle.vf_tree.specs.Core as core
-use Rattle.vf_meaning.specs.Ghost.{Result, Number, Truth}
+use Rattle.vf_meaning.specs.Ghost.{Integers, CurrentThread, Variable, Result, Number, Truth}
 use Rattle.vf_meaning.specs.Environments.{by_lemma}
 use Rattle.vf_rules.specs.Terms.{stored}
-use Rattle.vf_rules.specs.States.{Holds, SymbolicState, assuming, assuming_all, with_chunk}
+use Rattle.vf_rules.specs.States.{Holds, OfSort, SymbolicState, assuming, assuming_all, with_chunk}
 use Rattle.vf_rules.specs.Fresh.{symbol}
 use Rattle.vf_rules.specs.Take.{same, takes_all, no_change}
 use Rattle.vf_rules.specs.Accept.{all_of_it, call_store, facts_of_result, with_local, beginning, Accepts, do_call, do_return, may_call_lemma, IsAcceptedFunction}
@@ -13,7 +13,7 @@ use Rattle.std.specs.Prelude.{pos}
 use Rattle.vf_examples.specs.TwoUnits.{seven_name, again_name, seven_prototype, again_prototype, seven, again_seen, main_own, main, both_units, two_program}
 use Rattle.vf_examples.specs.BoxProgram.{somewhere}
 use Rattle.vf_examples.proofs.NewSymbols.{fresh_call, fresh_state, new_symbol}
-use Rattle.vf_examples.proofs.SharingFacts.{among_one, call_fixed, first_bound, integer_is_no_void, nothing_bound, same_self}
+use Rattle.vf_examples.proofs.SharingFacts.{among_one, by_place, call_fixed, first_bound, integer_is_no_void, nothing_bound, same_self}
 use Rattle.vf_examples.proofs.ClaimingFacts.{keeps_result}
 use Rattle.vf_examples.proofs.TwoUnitsFacts.{written, done_chunk, true_holds, last_known, between_known, none_sorted, none_inhabited}
 use Rattle.vf_examples.proofs.TwoUnitsSeven.{prototype_has}
@@ -57,7 +57,7 @@ returns =
 module _ (again_holds : LemmaHolds both_units two_program again_seen) where
   calls_lemma : Accepts both_units two_program main main_own [] [] 1 called
   calls_lemma =
-      may_call_lemma {now = []} {soon = []} {n = 1} {st = called} again_seen [] (record { store = call_store []; state = called } ∷ []) again_holds (λ leaks. by_lemma again_name refl leaks) none_inhabited refl (none_sorted called.path []) (
+      may_call_lemma {now = []} {soon = []} {n = 1} {st = called} again_seen [] (record { store = call_store []; state = called } ∷ []) again_holds (λ leaks. by_lemma again_name refl leaks) none_inhabited refl (none_sorted called.path []) (by_place both_units called.path 0 (OfSort (Variable CurrentThread) Integers) refl) (
         nothing_bound (call_store []),
         (
           called,

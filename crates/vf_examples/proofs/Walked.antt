@@ -11,6 +11,7 @@ use Rattle.vf_meaning.specs.Valuations.{Valuation, size}
 use Rattle.vf_meaning.specs.Names.{Uses}
 use Rattle.vf_meaning.specs.Sorts.{IsDatatypeOf, ArgumentsAre, HasSort, HaveSorts}
 use Rattle.vf_meaning.specs.Assertions.{Empty, Branches, no_branches, branch, ContractTree}
+use Rattle.vf_meaning.proofs.Linking.{never_leaks}
 use Rattle.vf_rules.specs.Terms.{Term, Store, stored}
 use Rattle.vf_rules.specs.States.{Fact, Holds, OfSort, SymbolicState, Entails, assuming}
 use Rattle.vf_rules.specs.Fresh.{symbol, IsFreshIn, IsNew}
@@ -283,7 +284,7 @@ calls =
 -- the first element of the list is passed for an int
 visits : Proves lemma_environment no_program lemmas walk 2 [] with_cons
 visits =
-    may_call {st = with_cons} 1 visit visiting after_visit refl (λ h. h) numbers_inhabited refl (one_sorted Integers with_cons.path (symbol 1) (record { by = λ v m. (((m.1).1).1).0 })) (knows_thread _)
+    may_call {st = with_cons} 1 visit visiting after_visit refl (λ leaks. absurd (never_leaks lemma_environment (λ text. refl) leaks)) numbers_inhabited refl (one_sorted Integers with_cons.path (symbol 1) (record { by = λ v m. (((m.1).1).1).0 })) (knows_thread _)
     (no_names (call_store visiting), is_true with_cons.path, (earlier (omega arith), fixed visit.contract (symbol 1) refl, (no_names (call_store visiting), inr (inl (refl, refl)))))
     (λ s su among. only s su among)
   where

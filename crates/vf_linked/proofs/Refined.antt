@@ -26,11 +26,11 @@ pub refined_lemmas_hold : RefinedLemmasHold
 refined_lemmas_hold e p own lemma same holds refines w q of_sorts typed required =
     let k = lemma.contract in
     let o = produced e p k.sorts all_of_it whole required.0 [] w k.requires_this (call_store (parameter_symbols k.parameters)) (lemma_beginning k) (IsAmong refines.outs) refines.required
-    w w q nothing q (beginning_stands e w k of_sorts) (begins_mean e w k.parameters) of_sorts refl positive_whole required.1 typed (neutral q) in
+    w w q nothing q (beginning_stands e w k of_sorts) (begins_mean e w k.parameters) of_sorts.0 refl positive_whole required.1 typed (neutral q) in
     let stands = o.stands in
     let g = reached e p (StandsIn e p own k) [] w q typed (refines.kept o.store o.state o.holds) o.under (record { path = stands.path; locals_mean = stands.locals_mean; names_mean = o.means; chunks_mean = stands.chunks_mean }) in
     let call = (g.holds).called in
-    let c = lemma_called e p own call.arguments (g.holds).outs g.state holds call.inhabited call.of_sorts call.consumed [] w g.under q g.stands typed in
+    let c = lemma_called e p own call.arguments (g.holds).outs g.state holds call.inhabited call.of_sorts call.thread call.consumed [] w g.under q g.stands typed in
     let l = reached e p (Ends e p k) [] w c.left (typed_right e p c.leaked c.left q c.sums typed) ((g.holds).ended c.store c.state c.holds) c.under c.stands in
     with_leaked e lemma w c.left c.leaked q (sums_turn c.leaked c.left q c.sums) (λ h. c.unleaked (λ leaks. h (subst (λ z. MayLeak e (BodyOf z)) same leaks)))
-    (end_gives e p lemma l.state l.holds l.under w c.left l.stands of_sorts)
+    (end_gives e p lemma l.state l.holds l.under w c.left l.stands of_sorts.0)
