@@ -1,12 +1,12 @@
 -- Walks against the edges, from the nodes that were finished last.
 use Rattle.std.proofs.Common.{◌≡◌, ◌≢◌, ◌⊎◌, ℕ, suc, ◌+◌, ◌-◌, ◌<◌, ◌≤◌, Bool, true, false, List, [], ◌∷◌, ◌++◌, reverse, length, take, drop, get_or, refl, sym, ap, subst, ◌∙◌, inl, inr, arith}
 use Rattle.std.specs.Prelude.{Contains, slice_index}
-use Rattle.std.proofs.lemmas.List.{take-append-drop, drop_more, take_more, reverse-append, reverse-reverse, length-append}
+use Rattle.std.proofs.lemmas.List.{take-append-drop, drop_more, take_more, reverse-append, reverse-reverse, append_assoc}
 use Rattle.std.proofs.lemmas.List.Elements.{Contains-append_left, Contains-append_right, Contains-append_cases}
 use Rattle.std.proofs.lemmas.Bool.{cases_eq}
 use Rattle.vf_cycles.specs.Reaching.{Way, Reaches}
-use Rattle.vf_cycles.specs.Graphs.{Edge, IsMarked, EachOnce}
-use Rattle.vf_cycles.specs.Walks.{IsRanked, IsWalk, IsReached, IsFinished, seen_nodes}
+use Rattle.vf_cycles.specs.Graphs.{Edge, AreEdges, IsMarked, EachOnce, HasNoCycle, IsOrder}
+use Rattle.vf_cycles.specs.Walks.{IsRanked, IsWalk, IsFinished, IsMarkedFrom}
 use Rattle.vf_cycles.proofs.Lists.{here, there, nowhere, front_or_behind, reverse_push, in_reverse, from_reverse, once_apart, once_front, once_reverse}
 use Rattle.vf_cycles.proofs.Ways.{one_step, both_ways, turned, last_step}
 
@@ -137,3 +137,83 @@ module _ (count : ℕ) (sources targets order : List ℕ) (at root : ℕ) (finis
   -- what is marked of the new nodes where the root alone is new
   pub only_root : length more ≤ 1 → Contains more root → (u : ℕ) → Contains more u → u ≡ root
   only_root short r u c = only more short r u c
+
+  two_or_less : (n : ℕ) → (n ≤ 1) ⊎ (1 < n)
+  two_or_less n = grind arith
+
+  module _ (marks marks' : List Bool) (marking : IsMarkedFrom targets sources root finished (finished ++ more) marks marks') (same : more ≡ marking.more)
+      (loops : (u : ℕ) → Edge sources targets u u → IsMarked marks u)
+      (sound : (u : ℕ) → IsMarked marks u → Reaches (Edge sources targets) u u)
+      (complete : (u : ℕ) → Contains finished u → Reaches (Edge sources targets) u u → IsMarked marks u) where
+
+    pub next_covered : (u : ℕ) → Contains (drop at order) u → Contains (finished ++ more) u
+    next_covered u c = elim (front_or_behind root u (drop (at + 1) order) (subst (λ l. Contains l u) behind c)) [
+        | inl is ↦ subst (λ x. Contains (finished ++ more) x) is marking.rooted
+        | inr rest ↦ Contains-append_left finished more u (covered u rest)
+      ]
+
+    pub next_loops : (u : ℕ) → Edge sources targets u u → IsMarked marks' u
+    next_loops u e = marking.kept u (loops u e)
+
+    pub next_sound : (u : ℕ) → IsMarked marks' u → Reaches (Edge sources targets) u u
+    next_sound u m = elim (marking.marked u m) [
+        | inl old_ ↦ sound u old_
+        | inr fresh ↦ all_around (subst (λ l. 1 < length l) (sym same) fresh.1) u (subst (λ l. Contains l u) (sym same) fresh.0)
+      ]
+
+    fresh_marked : (u : ℕ) → Contains more u → Reaches (Edge sources targets) u u → (length more ≤ 1) ⊎ (1 < length more) → IsMarked marks' u
+    fresh_marked u m r (inl short) =
+        let rooted : Contains more root = subst (λ l. Contains l root) (sym same) (marking.first u (subst (λ l. Contains l u) same m)) in
+        let is : u ≡ root = only_root short rooted u m in
+        subst (λ x. IsMarked marks' x) (sym is)
+        (next_loops root (alone short rooted (subst (λ x. Reaches (Edge sources targets) x x) is r)))
+    fresh_marked u m r (inr long) = marking.all (subst (λ l. 1 < length l) same long) u (subst (λ l. Contains l u) same m)
+
+    pub next_complete : (u : ℕ) → Contains (finished ++ more) u → Reaches (Edge sources targets) u u → IsMarked marks' u
+    next_complete u c r = elim (Contains-append_cases finished more u c) [
+        | inl old_ ↦ marking.kept u (complete u old_ r)
+        | inr fresh ↦ fresh_marked u fresh r (two_or_less (length more))
+      ]
+
+-- ---- the order where no node reaches itself
+
+none_in_front : (sources targets ahead xs rest : List ℕ) (u : ℕ) → HasNoCycle sources targets → IsRanked sources targets ahead (xs ++ u ∷ rest)
+    → ((z : ℕ) → Contains ahead z → Reaches (Edge sources targets) u z → ⊥) → (w : ℕ) → Contains xs w → Reaches (Edge sources targets) u w → ⊥
+none_in_front sources targets ahead [] rest u none h out w c r = nowhere w c
+none_in_front sources targets ahead (x ∷ xs) rest u none h out w c r = elim (front_or_behind x w xs c) [
+    | inl same ↦ not_x (subst (λ z. Reaches (Edge sources targets) u z) (sym same) r)
+    | inr behind ↦ none_in_front sources targets (x ∷ ahead) xs rest u none h.1
+        (λ z d s. elim (front_or_behind x z ahead d) [
+            | inl is ↦ not_x (subst (λ y. Reaches (Edge sources targets) u y) (sym is) s)
+            | inr old ↦ out z old s
+          ]) w behind r
+  ]
+  where
+    not_x : Reaches (Edge sources targets) u x → ⊥
+    not_x s = elim (h.0 u (Contains-append_right xs (u ∷ rest) u (here u rest)) s) [
+        | inl back ↦ none u (both_ways (Edge sources targets) u x u s back)
+        | inr found ↦ out found.0 found.1 found.2
+      ]
+
+pub is_order : (count : ℕ) (sources targets order : List ℕ) → AreEdges count sources targets → IsFinished count sources targets order → HasNoCycle sources targets → IsOrder count sources targets order
+is_order count sources targets order edges all none = record {
+    nodes = all.nodes;
+    each = all.each;
+    once = subst EachOnce (reverse-reverse order) (once_reverse (reverse order) all.once);
+    back = back
+  }
+  where
+    back : (before after : List ℕ) (u w : ℕ) → order ≡ before ++ u ∷ after → Edge sources targets u w → Contains before w
+    back before after u w is edge =
+        let turned_ : reverse order ≡ reverse after ++ u ∷ reverse before =
+            ap reverse is ∙ reverse-append before (u ∷ after) ∙ ap (λ l. l ++ reverse before) (reverse-append (u ∷ []) after) ∙ append_assoc (reverse after) (u ∷ []) (reverse before) in
+        let ranked_ = subst (IsRanked sources targets []) turned_ all.ranked in
+        let reach = one_step (Edge sources targets) u w edge in
+        let within : w < count = subst (λ x. x < count) edge.ends (edges.end edge.at (let p = edges.pairs in let b = edge.within in omega arith)) in
+        elim (Contains-append_cases before (u ∷ after) w (subst (λ l. Contains l w) is (all.each w within))) [
+          | inl there_ ↦ there_
+          | inr rest ↦ elim (front_or_behind u w after rest) [
+              | inl same ↦ absurd (none u (subst (λ x. Reaches (Edge sources targets) u x) (sym same) reach))
+              | inr behind ↦ absurd (none_in_front sources targets [] (reverse after) (reverse before) u none ranked_ (λ z c r. nowhere z c) w (in_reverse after w behind) reach)
+            ]
+        ]

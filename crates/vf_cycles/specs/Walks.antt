@@ -59,12 +59,12 @@ pub record IsReached (sources targets : List ℕ) (root : ℕ) (base open_ finis
 
 -- the edges of a graph with so many nodes, chained
 pub record IsGraph (count : ℕ) (g : Graph) : Type 0 where
-  pub edges : AreEdges count g.sources.now g.targets.now
-  pub chained : AreChained count g.sources.now g.last.items g.before.items
+  pub edges : AreEdges count g.sources.items g.targets.items
+  pub chained : AreChained count g.sources.items g.last.items g.before.items
 
 -- a walk through a graph, with these nodes open
 abbrev pub IsWalkOf : Graph → List ℕ → Walk → Type 0
-IsWalkOf g open_ w = IsWalk g.sources.now g.targets.now open_ w.finished.items w.seen.items w.left.items
+IsWalkOf g open_ w = IsWalk g.sources.items g.targets.items open_ w.finished.items w.seen.items w.left.items
 
 -- what a walk has still to do: twice the edges that are left, and the open nodes
 abbrev pub work : List ℕ → List ℕ → ℕ
@@ -76,3 +76,16 @@ pub record IsFinished (count : ℕ) (sources targets order : List ℕ) : Type 0 
   pub each : (u : ℕ) → u < count → Contains order u
   pub once : EachOnce (reverse order)
   pub ranked : IsRanked sources targets [] (reverse order)
+
+-- what a walk from a node, unless it was seen, adds to the finished nodes, and which nodes are marked then: the new ones, if there is
+-- more than one
+pub record IsMarkedFrom (sources targets : List ℕ) (root : ℕ) (old_finished finished : List ℕ) (old_marks marks : List Bool) : Type 0 where
+  pub more : List ℕ
+  pub parts : finished ≡ old_finished ++ more
+  pub rooted : Contains finished root
+  pub first : (u : ℕ) → Contains more u → Contains more root
+  pub each : (u : ℕ) → Contains more u → (u ≡ root) ⊎ Reaches (Edge sources targets) root u
+  pub nodes : length marks ≡ length old_marks
+  pub kept : (u : ℕ) → IsMarked old_marks u → IsMarked marks u
+  pub marked : (u : ℕ) → IsMarked marks u → IsMarked old_marks u ⊎ (Contains more u × (1 < length more))
+  pub all : 1 < length more → (u : ℕ) → Contains more u → IsMarked marks u

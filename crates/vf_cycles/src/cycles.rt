@@ -1,9 +1,9 @@
 //! Which nodes reach themselves.
 
-ghost use Rattle.std.specs.Prelude.{◌≡◌, ◌<◌, ◌⊎◌, ℕ, [], IfOk, Contains, length, reverse};
+ghost use Rattle.std.specs.Prelude.{◌≡◌, ◌<◌, ◌⊎◌, ℕ, [], IfOk, OnOk, Contains, length, reverse};
 ghost use Rattle.vf_cycles.specs.Reaching.{Reaches};
 ghost use Rattle.vf_cycles.specs.Graphs.{Edge, AreEdges, EachOnce, IsMarked, MarksCycles, HasNoCycle, IsOrder};
-ghost use Rattle.vf_cycles.specs.Walks.{IsFinished};
+ghost use Rattle.vf_cycles.specs.Walks.{IsFinished, IsGraph, IsWalkOf, IsMarkedFrom};
 
 use crate::graph::Graph;
 use crate::walk::Walk;
@@ -32,9 +32,7 @@ fn finishing_order(
     let graph = Graph::new(alloc, count, sources, targets)?;
     let mut walk = Walk::new(alloc, count, &graph)?;
     for root in 0..count {
-        if !walk.seen[root] {
-            walk.visit(root, &graph)?;
-        }
+        walk.visit_unseen(root, &graph)?;
     }
     Ok(walk.finished)
 }
@@ -73,6 +71,35 @@ fn mark_all(marks: &mut Vec<bool>, nodes: &[usize])
     }
 }
 
+/// Walks from a node, unless it was seen, and marks the nodes that are seen then, if there is more than one.
+fn mark_from(
+    marks: &mut Vec<bool>,
+    walk: &mut Walk,
+    root: usize,
+    graph: &Graph,
+) -> Result<(), Memory>
+    requires graph { IsGraph (length walk.old.seen.items) graph.now }
+    requires walk { IsWalkOf graph.now [] walk.old }
+    requires opened { walk.old.opened.items ≡ [] }
+    requires within { root < length walk.old.seen.items }
+    requires marks { length marks.old.items ≡ length walk.old.seen.items }
+    ensures walk { OnOk result (IsWalkOf graph.now [] walk.new) }
+    ensures opened { OnOk result (walk.new.opened.items ≡ []) }
+    ensures nodes { OnOk result (length walk.new.seen.items ≡ length walk.old.seen.items) }
+    ensures marked { OnOk result (IsMarkedFrom graph.now.sources.items graph.now.targets.items root
+        walk.old.finished.items walk.new.finished.items marks.old.items marks.new.items) }
+{
+    if walk.seen[root] {
+        return Ok(());
+    }
+    let start = walk.finished.len();
+    walk.visit(root, graph)?;
+    if start + 1 < walk.finished.len() {
+        mark_all(marks, &walk.finished.as_slice()[start..]);
+    }
+    Ok(())
+}
+
 /// Marks the nodes that reach themselves, by the order in which a walk in depth finishes all nodes.
 fn mark_cycles(
     alloc: Global,
@@ -91,14 +118,7 @@ fn mark_cycles(
     let mut at = order.len();
     while at > 0 {
         at -= 1;
-        let root = order[at];
-        if !walk.seen[root] {
-            let start = walk.finished.len();
-            walk.visit(root, &graph)?;
-            if start + 1 < walk.finished.len() {
-                mark_all(&mut marks, &walk.finished.as_slice()[start..]);
-            }
-        }
+        mark_from(&mut marks, &mut walk, order[at], &graph)?;
     }
     Ok(marks)
 }

@@ -1,6 +1,6 @@
 //! Walks in depth.
 
-ghost use Rattle.std.specs.Prelude.{◌≡◌, ◌<◌, ◌+◌, ◌++◌, [], ◌∷◌, ℕ, List, IfOk, OnOk, true, length, slice_set};
+ghost use Rattle.std.specs.Prelude.{◌≡◌, ◌<◌, ◌+◌, ◌++◌, [], ◌∷◌, ℕ, List, IfOk, OnOk, true, length, slice_set, Contains};
 ghost use Rattle.vf_cycles.specs.Graphs.{IsMarked};
 ghost use Rattle.vf_cycles.specs.Walks.{IsGraph, IsWalkOf, IsReached, work};
 
@@ -20,7 +20,7 @@ pub struct Walk {
 
 impl Walk {
     /// A walk through a graph that has seen no node.
-    pub fn new(alloc: Global, count: usize, graph: &Graph<'_>) -> Result<Walk, Memory>
+    pub fn new(alloc: Global, count: usize, graph: &Graph) -> Result<Walk, Memory>
         requires { IsGraph count graph.now }
         ensures walk { IfOk result (λ w. IsWalkOf graph.now [] w) }
         ensures opened { IfOk result (λ w. w.opened.items ≡ []) }
@@ -51,7 +51,7 @@ impl Walk {
     }
 
     /// Follows the last edge that is left of a node, the innermost that is open, or finishes it where none is left.
-    fn step(&mut self, node: usize, graph: &Graph<'_>) -> Result<(), Memory>
+    fn step(&mut self, node: usize, graph: &Graph) -> Result<(), Memory>
         requires graph { IsGraph (length self.old.seen.items) graph.now }
         requires walk { IsWalkOf graph.now (self.old.opened.items ++ node ∷ []) self.old }
         ensures walk { OnOk result (IsWalkOf graph.now self.new.opened.items self.new) }
@@ -59,9 +59,9 @@ impl Walk {
         ensures less { OnOk result (work self.new.opened.items self.new.left.items
             < work self.old.opened.items self.old.left.items + 1) }
         ensures reached { OnOk result ((root : ℕ) (base : List ℕ)
-            → IsReached graph.now.sources.now graph.now.targets.now root base
+            → IsReached graph.now.sources.items graph.now.targets.items root base
                 (self.old.opened.items ++ node ∷ []) self.old.finished.items
-            → IsReached graph.now.sources.now graph.now.targets.now root base
+            → IsReached graph.now.sources.items graph.now.targets.items root base
                 self.new.opened.items self.new.finished.items) }
     {
         let edge = self.left[node];
@@ -79,7 +79,7 @@ impl Walk {
     }
 
     /// Walks from a node that was not seen to all nodes that it reaches and that were not seen, and finishes them.
-    pub fn visit(&mut self, root: usize, graph: &Graph<'_>) -> Result<(), Memory>
+    pub fn visit(&mut self, root: usize, graph: &Graph) -> Result<(), Memory>
         requires graph { IsGraph (length self.old.seen.items) graph.now }
         requires walk { IsWalkOf graph.now [] self.old }
         requires opened { self.old.opened.items ≡ [] }
@@ -88,12 +88,30 @@ impl Walk {
         ensures walk { OnOk result (IsWalkOf graph.now [] self.new) }
         ensures opened { OnOk result (self.new.opened.items ≡ []) }
         ensures nodes { OnOk result (length self.new.seen.items ≡ length self.old.seen.items) }
-        ensures reached { OnOk result (IsReached graph.now.sources.now graph.now.targets.now root
+        ensures reached { OnOk result (IsReached graph.now.sources.items graph.now.targets.items root
             self.old.finished.items [] self.new.finished.items) }
     {
         self.open_node(root)?;
         while let Some(node) = self.opened.pop() {
             self.step(node, graph)?;
+        }
+        Ok(())
+    }
+
+    /// The same from a node that may have been seen; then there is nothing to do.
+    pub fn visit_unseen(&mut self, root: usize, graph: &Graph) -> Result<(), Memory>
+        requires graph { IsGraph (length self.old.seen.items) graph.now }
+        requires walk { IsWalkOf graph.now [] self.old }
+        requires opened { self.old.opened.items ≡ [] }
+        requires within { root < length self.old.seen.items }
+        ensures walk { OnOk result (IsWalkOf graph.now [] self.new) }
+        ensures opened { OnOk result (self.new.opened.items ≡ []) }
+        ensures nodes { OnOk result (length self.new.seen.items ≡ length self.old.seen.items) }
+        ensures kept { OnOk result ((u : ℕ) → Contains self.old.finished.items u → Contains self.new.finished.items u) }
+        ensures finished { OnOk result (Contains self.new.finished.items root) }
+    {
+        if !self.seen[root] {
+            self.visit(root, graph)?;
         }
         Ok(())
     }

@@ -127,14 +127,20 @@ IfRefused faults.Memory P = Unit {0}
 
 -- ---- what is known of manifests that link
 
+-- a line provides a main with this identity
+pub record ProvidesMain (l : Line) (name : Identity) : Type 0 where
+  pub signature : List ℕ
+  pub provided : l ≡ lines.Provides name signature
+  pub is_main : provides_main l ≡ true
+
 -- the manifest with this number provides the main with this identity
 pub record IsMain (manifests : List (List Line)) (at : ℕ) (identity : List ℕ) : Type 0 where
   pub manifest : List Line
-  pub name : Identity
-  pub signature : List ℕ
   pub there : slice_get manifests at ≡ Some manifest
-  pub provided : Contains manifest (lines.Provides name signature)
-  pub is_main : provides_main (lines.Provides name signature) ≡ true
+  pub line : Line
+  pub inside : Contains manifest line
+  pub name : Identity
+  pub main : ProvidesMain line name
   pub is : identity ≡ identity_text name
 
 -- each lemma that calls or is called stands in a list, once, and behind all that it calls

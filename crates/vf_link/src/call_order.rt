@@ -1,7 +1,7 @@
 //! The order of lemmas by their calls.
 
-ghost use Rattle.std.specs.Prelude.{◌≡◌, IfOk, map, length};
-ghost use Rattle.vf_link.specs.Statements.{all_lines, place};
+ghost use Rattle.std.specs.Prelude.{◌≡◌, ◌==◌, ◌<◌, ℕ, [], IfOk, Contains, map, filter, get_or, length, slice_index};
+ghost use Rattle.vf_link.specs.Statements.{all_lines};
 ghost use Rattle.vf_link.specs.Marks.{IsCalls};
 
 use crate::firsts::firsts;
@@ -28,6 +28,10 @@ fn in_order(
     firsts: &[usize],
     texts: &[Text],
 ) -> Result<Sequence<Text>, Memory>
+    requires within { (u : ℕ) → Contains order.now u → u < length texts.now }
+    requires firsts { length firsts.now ≡ length texts.now }
+    ensures { IfOk result (λ o. o ≡ map (λ u. get_or texts.now u [])
+        (filter (λ u. slice_index firsts.now u == u) order.now)) }
 {
     let mut ordered = Sequence::new(alloc);
     for at in order {

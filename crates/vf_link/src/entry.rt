@@ -1,8 +1,9 @@
 //! Which manifest provides main.
 
-ghost use Rattle.std.specs.Prelude.{◌≡◌, ◌+◌, IfOk, OnOk, IfErr, All, count_by, length, slice_get, Some};
+ghost use Rattle.std.specs.Prelude.{◌≡◌, ◌+◌, List, IfOk, OnOk, IfErr, IfSome, is_some, All, count_by, length, slice_get};
+ghost use Rattle.vf_manifest.specs.declared.line.Line as declared_line;
 ghost use Rattle.vf_link.specs.Statements.{all_lines, provides_main};
-ghost use Rattle.vf_link.specs.Linking.{IsMain, IsRefusal, IfRefused, HasOneMain, mains};
+ghost use Rattle.vf_link.specs.Linking.{IsMain, ProvidesMain, IsRefusal, IfRefused, HasOneMain, mains};
 
 use crate::refusal::{LinkFault, LinkRefusal};
 use crate::statement::identity_of;
@@ -20,7 +21,10 @@ pub struct Entry {
 }
 
 /// The identity of the main that a line provides.
-fn main_of(line: &Line) -> Option<&Identity> {
+fn main_of(line: &Line) -> Option<&Identity>
+    ensures found { IfSome result (λ i. ProvidesMain line.now i.now) }
+    ensures is { is_some result ≡ provides_main line.now }
+{
     match line {
         Line::Provides { provided, .. } if provided.name.has_bytes(b"main") => Some(provided),
         _ => None,
@@ -33,7 +37,12 @@ fn push_mains(
     mains: &mut Vec<Entry>,
     manifest: usize,
     lines: &[Line],
-) -> Result<(), Memory> {
+) -> Result<(), Memory>
+    ensures count { OnOk result (length mains.new.items ≡ length mains.old.items + count_by provides_main lines.now) }
+    ensures each { OnOk result ((manifests : List (List declared_line.Line)) → slice_get manifests manifest ≡ Some lines.now
+        → All (λ e. IsMain manifests e.manifest e.identity) mains.old.items
+        → All (λ e. IsMain manifests e.manifest e.identity) mains.new.items) }
+{
     for line in lines {
         if let Some(identity) = main_of(line) {
             let identity = identity_of(alloc, identity)?;

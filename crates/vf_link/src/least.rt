@@ -1,6 +1,6 @@
 //! The least of what fails a clause.
 
-ghost use Rattle.std.specs.Prelude.{◌≡◌, ◌↔◌, IsTrue, IfOk, length, option_map};
+ghost use Rattle.std.specs.Prelude.{◌≡◌, ◌↔◌, IsTrue, IfOk, if◌then◌else◌, length, option_map};
 ghost use Rattle.std.specs.Cmp.Lexicographic.{slice_cmp};
 ghost use Rattle.std.specs.Ordering.{nat_cmp};
 ghost use Rattle.vf_link.specs.Statements.{shown};
@@ -56,7 +56,18 @@ fn lesser<'a>(first: Option<&'a [u8]>, second: Option<&'a [u8]>) -> Option<&'a [
     }
 }
 
-/// The same of texts that are owned.
+/// The lesser of a text that may be missing and another one, which counts where it is marked.
+fn lesser_if<'a>(marked: bool, least: Option<&'a [u8]>, text: &'a [u8]) -> Option<&'a [u8]>
+    ensures { option_map (λ t. t.now) result ≡ (if marked then lesser (option_map (λ t. t.now) least) (Some text.now) else option_map (λ t. t.now) least) }
+{
+    if marked {
+        lesser(least, Some(text))
+    } else {
+        least
+    }
+}
+
+/// The lesser of two texts, which are owned and may be missing.
 pub fn lesser_text(first: Option<Text>, second: Option<Text>) -> Option<Text>
     ensures { result ≡ lesser first second }
 {
@@ -80,9 +91,7 @@ fn least_bytes<'a>(topic: Topic, subjects: &'a [Text], marks: &[bool]) -> Option
 {
     let mut least = None;
     for at in 0..subjects.len() {
-        if marks[at] {
-            least = lesser(least, Some(shown(topic, subjects[at].as_bytes())));
-        }
+        least = lesser_if(marks[at], least, shown(topic, subjects[at].as_bytes()));
     }
     least
 }

@@ -1,7 +1,8 @@
 //! Whether what is required is provided, and as it is required.
 
-ghost use Rattle.std.specs.Prelude.{◌≡◌, ◌≤◌, ◌++◌, IfOk, map, length};
-ghost use Rattle.vf_link.specs.Statements.{all_lines, place, statements, subjects, contents};
+ghost use Rattle.std.specs.Prelude.{◌≡◌, List, IfOk, map, length};
+ghost use Rattle.vf_manifest.specs.declared.line.Line as declared_line;
+ghost use Rattle.vf_link.specs.Statements.{all_lines, place};
 ghost use Rattle.vf_link.specs.Least.{IsLeastOf, HasNone};
 ghost use Rattle.vf_link.specs.Linking.{IsUnmet, HasOtherSignature, IsProvidedTwice, agree};
 ghost use Rattle.vf_link.specs.Marks.{Marks, IsNoneOf, DisagreesWith, Meets};
@@ -53,14 +54,16 @@ impl Requirements {
             (IsNoneOf self.now.provided self.now.statements.subjects.items)) }
     {
         let mut marks = Vec::with_capacity(alloc, self.firsts.len())?;
-        for first in &self.firsts {
-            marks.push(self.provided <= *first)?;
+        for at in 0..self.firsts.len() {
+            marks.push(self.provided <= self.firsts[at])?;
         }
         Ok(marks)
     }
 
     /// The least identity that is required and not provided.
     pub fn least_unmet(&self, alloc: Global) -> Result<Option<Text>, Memory>
+        requires { self.now.firsts.items ≡ map (place self.now.statements.subjects.items) self.now.statements.subjects.items }
+        ensures { IfOk result (λ x. (lines : List declared_line.Line) → Meets lines self.now → IsLeastOf (IsUnmet lines) x) }
     {
         let marks = self.mark_unmet(alloc)?;
         let subjects = self.statements.subjects.as_slice();
@@ -69,6 +72,10 @@ impl Requirements {
 
     /// Marks the identities that are required with a signature that does not agree with the one that is provided.
     fn mark_disagreements(&self, alloc: Global) -> Result<Vec<bool>, Memory>
+        requires firsts { self.now.firsts.items ≡ map (place self.now.statements.subjects.items) self.now.statements.subjects.items }
+        requires pairs { length self.now.statements.contents.items ≡ length self.now.statements.subjects.items }
+        ensures { IfOk result (λ m. Marks (length self.now.statements.subjects.items) m.items
+            (DisagreesWith self.now.provided self.now.statements.subjects.items self.now.statements.contents.items)) }
     {
         let contents = self.statements.contents.as_slice();
         let mut marks = Vec::with_capacity(alloc, self.firsts.len())?;
@@ -82,6 +89,10 @@ impl Requirements {
 
     /// The least identity that is required with a signature that does not agree with the one that is provided.
     pub fn least_disagreeing(&self, alloc: Global) -> Result<Option<Text>, Memory>
+        requires firsts { self.now.firsts.items ≡ map (place self.now.statements.subjects.items) self.now.statements.subjects.items }
+        requires pairs { length self.now.statements.contents.items ≡ length self.now.statements.subjects.items }
+        ensures { IfOk result (λ x. (lines : List declared_line.Line) → Meets lines self.now
+            → HasNone (IsProvidedTwice lines) → IsLeastOf (HasOtherSignature lines) x) }
     {
         let marks = self.mark_disagreements(alloc)?;
         let subjects = self.statements.subjects.as_slice();
