@@ -115,16 +115,16 @@ mark_from_differ topic xs marks m x h = by (bytes_eq (get_or (contents xs) p [])
 -- ---- what is required
 
 module _ (ls : List Line) where
-  abbrev given : List Statement
+  abbrev pub given : List Statement
   given = statements Provided ls
 
-  abbrev wanted : List Statement
+  abbrev pub wanted : List Statement
   wanted = statements Required ls
 
-  abbrev names : List (List ℕ)
+  abbrev pub names : List (List ℕ)
   names = subjects (statements Provided ls) ++ subjects (statements Required ls)
 
-  abbrev signatures : List (List ℕ)
+  abbrev pub signatures : List (List ℕ)
   signatures = contents (statements Provided ls) ++ contents (statements Required ls)
 
   provided_name : (k : ℕ) → k < length (statements Provided ls) → get_or names k [] ≡ (get_or (statements Provided ls) k nothing).subject

@@ -1,5 +1,5 @@
 -- The least of what has a property, put together.
-use Rattle.std.proofs.Common.{◌≡◌, ◌⊎◌, ℕ, ◌+◌, ◌<◌, ◌≤◌, Bool, true, false, cond, List, [], ◌∷◌, length, get_or, Option, Some, None, refl, sym, ap, subst, ◌∙◌, inl, inr, arith}
+use Rattle.std.proofs.Common.{◌≡◌, ◌⊎◌, ℕ, ◌+◌, ◌<◌, ◌≤◌, Bool, true, false, cond, List, [], ◌∷◌, length, get_or, Option, Some, None, Result, Ok, Err, IfOk, refl, sym, ap, subst, ◌∙◌, inl, inr, arith}
 use Rattle.std.specs.declared.cmp.Ordering.{Ordering}
 use Rattle.std.specs.declared.cmp.Ordering.TheVariants.{Less, Equal, Greater}
 use Rattle.std.specs.Cmp.{IsTotalOrder}
@@ -77,3 +77,12 @@ lesser_is P Q (Some s) (Some t) p q = both_found P Q s t (is_lt (slice_cmp nat_c
 pub same_least : (P Q : List ℕ → Type 0) (o : Option (List ℕ)) → ((x : List ℕ) → P x → Q x) → ((x : List ℕ) → Q x → P x) → IsLeastOf P o → IsLeastOf Q o
 same_least P Q None to back h = λ x q. h x (back x q)
 same_least P Q (Some s) to back h = record { is = to s h.is; least = λ x q. h.least x (back x q) }
+
+-- the same of what a call gives
+pub if_same : {E : Type 0} (P Q : List ℕ → Type 0) (r : Result (Option (List ℕ)) E) → ((x : List ℕ) → P x → Q x) → ((x : List ℕ) → Q x → P x) → IfOk r (IsLeastOf P) → IfOk r (IsLeastOf Q)
+if_same P Q (Ok o) to back h = same_least P Q o to back h
+if_same P Q (Err e) to back h = tt
+
+pub if_more : {E : Type 0} (P Q : Option (List ℕ) → Type 0) (r : Result (Option (List ℕ)) E) → ((o : Option (List ℕ)) → P o → Q o) → IfOk r P → IfOk r Q
+if_more P Q (Ok o) to h = to o h
+if_more P Q (Err e) to h = tt

@@ -6,3 +6,4 @@ pub mod Leasts
 pub mod Marking
 pub mod Failing
 pub mod Calling
+pub mod Refusing

@@ -1,9 +1,10 @@
 //! What is said twice, and what is said in two ways.
 
-ghost use Rattle.std.specs.Prelude.{◌≡◌, IfOk, map, length};
-ghost use Rattle.vf_link.specs.Statements.{all_lines, place, shown, statements};
+ghost use Rattle.std.specs.Prelude.{◌≡◌, List, IfOk, map, length};
+ghost use Rattle.vf_link.specs.declared.statement.Statement as declared_statement;
+ghost use Rattle.vf_link.specs.Statements.{all_lines, contents, place, shown, statements, subjects};
 ghost use Rattle.vf_link.specs.Least.{IsLeastOf};
-ghost use Rattle.vf_link.specs.Linking.{IsProvidedTwice, Differ, HasTwoBodies, HasTwoDigests};
+ghost use Rattle.vf_link.specs.Linking.{StandsTwice, IsProvidedTwice, Differ, HasTwoBodies, HasTwoDigests};
 ghost use Rattle.vf_link.specs.Marks.{Marks, IsRepeated, IsContradicted};
 
 use crate::firsts::firsts;
@@ -25,15 +26,21 @@ fn mark_repeats(alloc: Global, firsts: &[usize], texts: &[Text]) -> Result<Vec<b
     Ok(marks)
 }
 
+/// The least text that stands at two places.
+fn least_repeated(alloc: Global, texts: &[Text]) -> Result<Option<Text>, Memory>
+    ensures { IfOk result (IsLeastOf (StandsTwice texts.now)) }
+{
+    let firsts = firsts(alloc, texts)?;
+    let marks = mark_repeats(alloc, firsts.as_slice(), texts)?;
+    least_marked(alloc, Topic::Provided, texts, marks.as_slice())
+}
+
 /// The least identity that is provided twice.
 pub fn least_provided_twice(alloc: Global, manifests: &[Manifest]) -> Result<Option<Text>, Memory>
     ensures { IfOk result (IsLeastOf (IsProvidedTwice (all_lines manifests.now))) }
 {
     let provided = stated(alloc, Topic::Provided, manifests)?;
-    let subjects = provided.subjects.as_slice();
-    let firsts = firsts(alloc, subjects)?;
-    let marks = mark_repeats(alloc, firsts.as_slice(), subjects)?;
-    least_marked(alloc, Topic::Provided, subjects, marks.as_slice())
+    least_repeated(alloc, provided.subjects.as_slice())
 }
 
 /// Marks what is not what is said first of the same subject.
@@ -54,6 +61,22 @@ fn mark_contradictions(
     Ok(marks)
 }
 
+/// What is shown of the least subject of which different things are said.
+fn least_differing(
+    alloc: Global,
+    topic: Topic,
+    subjects: &[Text],
+    contents: &[Text],
+) -> Result<Option<Text>, Memory>
+    requires { length contents.now ≡ length subjects.now }
+    ensures { IfOk result (λ x. (said : List declared_statement.Statement)
+        → subjects.now ≡ subjects said → contents.now ≡ contents said → IsLeastOf (Differ (shown topic) said) x) }
+{
+    let firsts = firsts(alloc, subjects)?;
+    let marks = mark_contradictions(alloc, firsts.as_slice(), subjects, contents)?;
+    least_marked(alloc, topic, subjects, marks.as_slice())
+}
+
 /// What is shown of the least subject of which the lines of some manifests say different things.
 fn least_contradicted(
     alloc: Global,
@@ -63,15 +86,12 @@ fn least_contradicted(
     ensures { IfOk result (IsLeastOf (Differ (shown topic) (statements topic (all_lines manifests.now)))) }
 {
     let stated = stated(alloc, topic, manifests)?;
-    let subjects = stated.subjects.as_slice();
-    let firsts = firsts(alloc, subjects)?;
-    let marks = mark_contradictions(
+    least_differing(
         alloc,
-        firsts.as_slice(),
-        subjects,
+        topic,
+        stated.subjects.as_slice(),
         stated.contents.as_slice(),
-    )?;
-    least_marked(alloc, topic, subjects, marks.as_slice())
+    )
 }
 
 /// The least predicate, struct or family of which a body or an instance stands in two files.
