@@ -1,5 +1,5 @@
 -- What the example of two units needs: states, facts on their paths, and the chunk of the header's predicate.
-use Rattle.std.proofs.Common.{zero, suc, pos, true, List, [], ◌∷◌, ◌++◌, refl, inl}
+use Rattle.std.proofs.Common.{pos, true, List, [], ◌∷◌, ◌++◌, refl, inl}
 use Rattle.vf_base.specs.declared.int_type.IntType.TheVariants as types
 use Rattle.vf_tree.specs.Core.{Integer}
 use Rattle.vf_meaning.specs.Fractions.{whole}

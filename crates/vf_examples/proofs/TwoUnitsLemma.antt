@@ -1,5 +1,5 @@
 -- The lemma of the first unit is accepted under the contract of its definition, which refines that of its prototype.
-use Rattle.std.proofs.Common.{◌≡◌, zero, suc, true, List, [], ◌∷◌, refl, subst, inl, inr}
+use Rattle.std.proofs.Common.{◌≡◌, true, List, [], ◌∷◌, refl, subst, inl, inr}
 use Rattle.vf_meaning.specs.Ghost.{Truth}
 use Rattle.vf_meaning.specs.Assertions.{Named, Plain, ContractTree}
 use Rattle.vf_rules.specs.States.{Holds, SymbolicState, assuming, with_chunk, with_chunks}

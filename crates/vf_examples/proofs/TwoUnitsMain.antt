@@ -1,5 +1,5 @@
 -- Main of the second unit is accepted: it calls the function and the lemma of the first unit by the contracts of their prototypes.
-use Rattle.std.proofs.Common.{zero, suc, true, [], ◌∷◌, Some, refl, inl, inr, arith}
+use Rattle.std.proofs.Common.{true, [], ◌∷◌, Some, refl, inl, inr, arith}
 use Rattle.vf_tree.specs.Core as core
 use Rattle.vf_meaning.specs.Ghost.{Result, Number, Truth}
 use Rattle.vf_meaning.specs.Environments.{by_lemma}

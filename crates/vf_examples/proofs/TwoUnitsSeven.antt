@@ -1,5 +1,5 @@
 -- The function of the first unit is accepted under the contract of its definition, which refines that of its prototype.
-use Rattle.std.proofs.Common.{◌≡◌, zero, suc, pos, true, List, [], ◌∷◌, refl, subst, inl, inr, arith}
+use Rattle.std.proofs.Common.{◌≡◌, pos, true, List, [], ◌∷◌, refl, subst, inl, inr, arith}
 use Rattle.vf_tree.specs.Core as core
 use Rattle.vf_meaning.specs.Ghost.{Result, Number, Truth}
 use Rattle.vf_meaning.specs.Assertions.{Named, Plain, ContractTree}
