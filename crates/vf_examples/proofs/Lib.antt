@@ -26,3 +26,5 @@ pub mod ClaimingMain
 pub mod ArraySplit
 pub mod ArrayElements
 pub mod Halved
+pub mod WildArguments
+pub mod WildInformation

@@ -12,3 +12,4 @@ pub mod NoLeaks
 pub mod Leaving
 pub mod Claiming
 pub mod ArrayCalls
+pub mod WildArguments

@@ -11,6 +11,7 @@ pub mod CaseNames
 pub mod Consumes
 pub mod Told
 pub mod Opening
+pub mod Inhabited
 pub mod Loops
 pub mod Cases
 pub mod Evaluates

@@ -8,6 +8,7 @@ pub mod Consume
 pub mod Laws
 pub mod Predicates
 pub mod PredicateLaws
+pub mod Inhabited
 pub mod Loops
 pub mod LoopLaws
 pub mod Cases

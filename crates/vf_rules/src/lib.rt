@@ -12,7 +12,7 @@
 //! coming to a loop's head. A claim is a refinement: with all of these ghost steps but leaks and loops
 //! (`specs/GhostSteps`) between its parts, the type's precondition is produced, the own one consumed, the own
 //! postcondition produced and the type's consumed. Premises are semantic. Laws: `producing_adds`, `consuming_takes`,
-//! `joining_keeps`, `changes_keep`, `opening_keeps`, `closing_keeps`, `entering_keeps`, `empty_cases_hold`; annotations
+//! `joining_keeps`, `changes_keep`, `opening_keeps`, `closing_keeps`, `entering_keeps`, `empty_cases_hold`; that sorts have values: `closed_sorts_have_values`; annotations
 //! that need no rule of their own: `asserting_is_accepted`, `choosing_is_accepted`.
 #![tactic(auto)]
 
@@ -20,8 +20,10 @@ mod ghost_laws;
 mod laws;
 mod loop_laws;
 mod predicate_laws;
+mod sort_laws;
 
 pub use ghost_laws::{asserting_is_accepted, choosing_is_accepted};
 pub use laws::{changes_keep, consuming_takes, joining_keeps, producing_adds};
 pub use loop_laws::{empty_cases_hold, entering_keeps};
 pub use predicate_laws::{closing_keeps, opening_keeps};
+pub use sort_laws::closed_sorts_have_values;
