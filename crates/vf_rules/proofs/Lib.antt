@@ -17,3 +17,4 @@ pub mod Cases
 pub mod Evaluates
 pub mod LemmaCalls
 pub mod GhostLaws
+pub mod Ranges

@@ -21,3 +21,4 @@ pub mod Accept
 pub mod GhostSteps
 pub mod Claims
 pub mod GhostLaws
+pub mod Ranges

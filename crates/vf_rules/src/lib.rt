@@ -20,10 +20,15 @@ mod ghost_laws;
 mod laws;
 mod loop_laws;
 mod predicate_laws;
+mod range_laws;
 mod sort_laws;
 
 pub use ghost_laws::{asserting_is_accepted, choosing_is_accepted};
 pub use laws::{changes_keep, consuming_takes, joining_keeps, producing_adds};
 pub use loop_laws::{empty_cases_hold, entering_keeps};
 pub use predicate_laws::{closing_keeps, opening_keeps};
+pub use range_laws::{
+    changes_keep_types, consuming_keeps_types, facts_keep_types, loading_keeps_types,
+    producing_keeps_types, setting_keeps_types, storing_keeps_types, taking_keeps_types,
+};
 pub use sort_laws::closed_sorts_have_values;
