@@ -1,19 +1,24 @@
 -- The rules keep the sorts and ranges of symbolic states.
-use Rattle.std.proofs.Common.{◌≡◌, ℕ, zero, suc, ◌-◌, List, [], ◌∷◌, ◌++◌, drop, map, length, slice_get, slice_set, Option, Some, None, refl, sym, ap, subst, ◌∙◌, ◌⊎◌, inl, inr}
-use Rattle.vf_tree.specs.Core.{Field, TypeTree, ProgramTree}
-use Rattle.vf_model.specs.Values.{Value}
-use Rattle.vf_meaning.specs.Ghost.{Sort, Name}
+use Rattle.std.proofs.Common.{◌≡◌, ℕ, ℤ, Bool, true, false, cond, zero, suc, ◌-◌, List, [], ◌∷◌, ◌++◌, drop, map, length, slice_get, slice_set, Option, Some, None, refl, sym, ap, subst, ◌∙◌, ◌⊎◌, inl, inr, arith}
+use Rattle.std.specs.Prelude.{◌≤ℤ◌, ◌==◌, int_le}
+use Rattle.std.proofs.lemmas.Int.{ints}
+use Rattle.std.proofs.lemmas.Bool.Decides.{nat_tests}
+use Rattle.vf_tree.specs.Core.{Identity, Field, TypeTree, ProgramTree, NotEqual}
+use Rattle.vf_model.specs.Values.{Value, number_of}
+use Rattle.vf_model.specs.Integers.{least, greatest}
+use Rattle.vf_meaning.specs.Ghost.{Sort, Name, Pointers, Null, Compare}
 use Rattle.vf_meaning.specs.Valuations.{Valuation}
 use Rattle.vf_meaning.specs.Assertions.{ShareTree, Times, Taken, PatternTree, Is, Names, Wild, Assertion, Pure, Empty, Both, Choose, Switch, Cell, Chunk, Branches, no_branches, branch, Environment}
 use Rattle.vf_rules.specs.Terms.{Term, Store}
-use Rattle.vf_rules.specs.States.{Fact, CellOf, Of, SymbolicChunk, SymbolicState, Meets, IsMet, Entails, Infeasible, assuming, assuming_all, with_chunk, with_chunks}
+use Rattle.vf_rules.specs.Fresh.{symbol}
+use Rattle.vf_rules.specs.States.{Fact, Holds, OfSort, value_in, CellOf, Of, SymbolicChunk, SymbolicState, Meets, IsMet, Entails, Infeasible, assuming, assuming_all, with_chunk, with_chunks}
 use Rattle.vf_rules.specs.Types.{type_of_field, facts_of_type}
 use Rattle.vf_rules.specs.Produce.{facts_of_cell, NoArgumentSort, Given, ProducePatterns, ProduceShare, Produce, ProduceBranches}
 use Rattle.vf_rules.specs.Take.{Takes, takes_all, takes_part, takes_later, Removes, removes_here, removes_later, joined, Joins, JoinsRows, Merges, merges_here, merges_rows, merges_later, Renames, Replaces, replaces_here, replaces_later, Change, learns, merges, names_value, makes_value, Changes, no_change, and_change}
 use Rattle.vf_rules.specs.Consume.{EntailsAll, ConsumePatterns, ConsumeShare, Consume, ConsumeBranches}
 use Rattle.vf_rules.specs.Laws.{IsAmong}
-use Rattle.vf_rules.specs.Accept.{cell_chunk}
-use Rattle.vf_rules.specs.Ranges.{LocalsTyped, ContentTyped, ContentsTyped, IsTypedState, FactsKeepTypes, ChangesKeepTypes, SettingKeepsTypes, LoadingKeepsTypes, TakingKeepsTypes, StoringKeepsTypes, ProducingKeepsTypes, ConsumingKeepsTypes}
+use Rattle.vf_rules.specs.Accept.{cell_chunk, block_chunk, field_at, new_chunks}
+use Rattle.vf_rules.specs.Ranges.{LocalsTyped, ContentTyped, ContentsTyped, IsTypedState, FactsKeepTypes, ChangesKeepTypes, SettingKeepsTypes, LoadingKeepsTypes, TakingKeepsTypes, StoringKeepsTypes, AllocatingKeepsTypes, NamingKeepsTypes, ProducingKeepsTypes, ConsumingKeepsTypes, RangesWiden}
 
 some_same : {A : Type 0} {x y : A} → Some x ≡ Some y → x ≡ y
 some_same e = cc
@@ -297,6 +302,9 @@ module _ (e : Environment) where
             cases_kept rest u s st K Q step h.1 t,
           )
 
+numbers_same : (i j : ℕ) → (i == j) ≡ true → i ≡ j
+numbers_same i j h = grind (arith, nat_tests)
+
 -- ---- the laws
 pub facts_keep_types : FactsKeepTypes
 facts_keep_types e p types kinds st fs h = facts_kept e p types kinds st fs h
@@ -328,8 +336,45 @@ storing_keeps_types e p types kinds st wanted pointer w c others field t own h =
     stored_typed path f u z us type head arguments at =
         subst (λ y. EntailsAll e st.path (facts_of_type type y)) (second_same arguments) (own type (ap (λ y. type_of_field p y.structure y.index) (field_same head) ∙ at))
 
+-- the cells of new memory have unknown content
+new_typed : (e : Environment) (p : ProgramTree) (path : List Fact) (g : Identity) (t : Term) (i n : ℕ) → ContentsTyped e p path (new_chunks g t i n)
+new_typed e p path g t i zero = (no_cell e p path (block_chunk g t) _ refl, tt)
+new_typed e p path g t i (suc n) = (λ f u w us type head arguments at. unknown arguments, new_typed e p path g t (suc i) n)
+  where
+    unknown : {A : Type 0} {u w : Term} {us : List (Option Term)} → Some t ∷ None ∷ [] ≡ Some u ∷ Some w ∷ us → A
+    unknown h = cc
+
+pub allocating_keeps_types : AllocatingKeepsTypes
+allocating_keeps_types e p types kinds st x y n g type is pointer h =
+    let facts = OfSort (symbol y) Pointers ∷ Holds (Compare NotEqual (symbol y) Null) ∷ [] in
+    let grown = chunks_kept e p types kinds st (st.chunks ++ new_chunks g (symbol y) 0 n) h (contents_add e p st.path st.chunks (new_chunks g (symbol y) 0 n) h.contents (new_typed e p st.path g (symbol y) 0 n)) in (
+      setting_keeps_types e p types kinds st x type Null is (subst (EntailsAll e st.path) (sym (pointer Null)) (record { by = λ v m. inl refl }, tt)) h,
+      setting_keeps_types e p types kinds (assuming_all (with_chunks st (st.chunks ++ new_chunks g (symbol y) 0 n)) facts) x type (symbol y) is
+          (subst (EntailsAll e (st.path ++ facts)) (sym (pointer (symbol y))) (record { by = λ v m. (meets_back e v st.path facts m).0 }, tt))
+          (facts_kept e p types kinds (with_chunks st (st.chunks ++ new_chunks g (symbol y) 0 n)) facts grown),
+    )
+
+pub naming_keeps_types : NamingKeepsTypes
+naming_keeps_types e p types kinds st y s own h = record { locals = h.locals; contents = h.contents; symbols = λ z t is. by_test z t (z == y) refl is }
+  where
+    by_test : (z : ℕ) (t : Sort) (b : Bool) → (z == y) ≡ b → cond b (Some s) (kinds z) ≡ Some t → Entails e st.path (OfSort (symbol z) t)
+    by_test z t true same is = subst (λ j. Entails e st.path (OfSort (symbol j) t)) (sym (numbers_same z y same)) (subst (λ q. Entails e st.path (OfSort (symbol y) q)) (some_same is) own)
+    by_test z t false other is = h.symbols z t is
+
 pub producing_keeps_types : ProducingKeepsTypes
 producing_keeps_types e p types kinds sorts scale a s st outs h t = produce_kept e p types kinds sorts scale a s st (IsAmong outs) (λ s1 st1. IsAmong outs s1 st1 × IsTypedState e p types kinds st1) (λ s1 st1 t1 k. (k, t1)) h t
 
 pub consuming_keeps_types : ConsumingKeepsTypes
 consuming_keeps_types e p types kinds sorts scale a s st outs h t = consume_kept e p types kinds sorts scale a s st (IsAmong outs) (λ s1 st1. IsAmong outs s1 st1 × IsTypedState e p types kinds st1) (λ s1 st1 t1 k. (k, t1)) h t
+
+lower_wide : (a b n : ℤ) → a ≤ℤ b → int_le b n ≡ true → int_le a n ≡ true
+lower_wide a b n l h = grind (arith, ints)
+
+upper_wide : (a b n : ℤ) → a ≤ℤ b → int_le n a ≡ true → int_le n b ≡ true
+upper_wide a b n l h = grind (arith, ints)
+
+pub ranges_widen : RangesWiden
+ranges_widen e path from into t h = (
+  λ l. record { by = λ v m. lower_wide (least into) (least from) (number_of (value_in e v t)) l ((h.0).by v m) },
+  λ l. record { by = λ v m. upper_wide (greatest from) (greatest into) (number_of (value_in e v t)) l ((h.1).by v m) },
+)

@@ -1,17 +1,20 @@
 -- The invariant of sorts and ranges of symbolic states: what rules that ask for no types may rest on, and that the rules keep it. Each law is the contract of a public function with an empty body.
-use Rattle.std.specs.Prelude.{◌≡◌, ℕ, List, [], ◌∷◌, ◌++◌, Option, Some, None, slice_get}
-use Rattle.vf_tree.specs.Core.{Field, TypeTree, ProgramTree}
-use Rattle.vf_meaning.specs.Ghost.{Sort}
+use Rattle.std.specs.Prelude.{◌≡◌, ℕ, ◌≤ℤ◌, ◌==◌, cond, List, [], ◌∷◌, ◌++◌, Option, Some, None, slice_get}
+use Rattle.vf_base.specs.declared.int_type.IntType.{IntType}
+use Rattle.vf_tree.specs.Core.{Identity, Field, TypeTree, ProgramTree, NotEqual, LessEqual}
+use Rattle.vf_model.specs.Integers.{least, greatest}
+use Rattle.vf_meaning.specs.Ghost.{Sort, Pointers, Number, Null, Compare}
 use Rattle.vf_meaning.specs.Assertions.{Assertion, Environment}
 use Rattle.vf_rules.specs.Terms.{Term, Store}
-use Rattle.vf_rules.specs.States.{Fact, OfSort, CellOf, SymbolicChunk, SymbolicState, Entails, assuming_all, with_chunks}
+use Rattle.vf_rules.specs.States.{Fact, Holds, OfSort, CellOf, SymbolicChunk, SymbolicState, Entails, assuming_all, with_chunks}
 use Rattle.vf_rules.specs.Fresh.{symbol}
 use Rattle.vf_rules.specs.Types.{type_of_field, facts_of_type}
 use Rattle.vf_rules.specs.Produce.{Produce}
 use Rattle.vf_rules.specs.Take.{Takes, Removes, Changes}
 use Rattle.vf_rules.specs.Consume.{EntailsAll, Consume}
 use Rattle.vf_rules.specs.Laws.{Outcome, IsAmong}
-use Rattle.vf_rules.specs.Accept.{with_local, cell_chunk}
+use Rattle.vf_rules.specs.Evaluate.{IsInRange}
+use Rattle.vf_rules.specs.Accept.{with_local, cell_chunk, new_chunks}
 
 -- locals have their types, one by one: each that has a term has, on a path, a value in the range of its type
 abbrev pub LocalsTyped : Environment → List Fact → List TypeTree → List (Option Term) → Type 0
@@ -76,7 +79,21 @@ StoringKeepsTypes =
     → Takes e st.path wanted c st.chunks others → ((type : TypeTree) → type_of_field p field.structure field.index ≡ Some type → EntailsAll e st.path (facts_of_type type w))
     → IsTypedState e p types kinds st → IsTypedState e p types kinds (with_chunks st (others ++ cell_chunk field pointer (Some w) ∷ []))
 
--- producing an assertion keeps it: it is produced from a state that has it with outcomes that are among the same ones and have it
+-- new memory keeps it: where none is granted the local is null, and else a new symbol points to cells of unknown content
+abbrev pub AllocatingKeepsTypes : Type 0
+AllocatingKeepsTypes =
+    (e : Environment) (p : ProgramTree) (types : List TypeTree) (kinds : ℕ → Option Sort) (st : SymbolicState) (x y n : ℕ) (g : Identity) (type : TypeTree)
+    → slice_get types x ≡ Some type → ((t : Term) → facts_of_type type t ≡ OfSort t Pointers ∷ []) → IsTypedState e p types kinds st
+    → IsTypedState e p types kinds (with_local st x Null)
+    × IsTypedState e p types kinds (with_local (assuming_all (with_chunks st (st.chunks ++ new_chunks g (symbol y) 0 n)) (OfSort (symbol y) Pointers ∷ Holds (Compare NotEqual (symbol y) Null) ∷ [])) x (symbol y))
+
+-- a symbol of which a sort is known may be given that sort
+abbrev pub NamingKeepsTypes : Type 0
+NamingKeepsTypes =
+    (e : Environment) (p : ProgramTree) (types : List TypeTree) (kinds : ℕ → Option Sort) (st : SymbolicState) (y : ℕ) (s : Sort)
+    → Entails e st.path (OfSort (symbol y) s) → IsTypedState e p types kinds st → IsTypedState e p types (λ z. cond (z == y) (Some s) (kinds z)) st
+
+-- producing an assertion keeps it in every state that is so got
 abbrev pub ProducingKeepsTypes : Type 0
 ProducingKeepsTypes =
     (e : Environment) (p : ProgramTree) (types : List TypeTree) (kinds : ℕ → Option Sort) (sorts : List Sort) (scale : Term) (a : Assertion) (s : Store) (st : SymbolicState) (outs : List Outcome)
@@ -87,3 +104,9 @@ abbrev pub ConsumingKeepsTypes : Type 0
 ConsumingKeepsTypes =
     (e : Environment) (p : ProgramTree) (types : List TypeTree) (kinds : ℕ → Option Sort) (sorts : List Sort) (scale : Term) (a : Assertion) (s : Store) (st : SymbolicState) (outs : List Outcome)
     → Consume e p sorts scale a s st (IsAmong outs) → IsTypedState e p types kinds st → Consume e p sorts scale a s st (λ s1 st1. IsAmong outs s1 st1 × IsTypedState e p types kinds st1)
+
+-- a term in the range of an integer type is within each bound of another one that is as wide there, so that a conversion asks for the other bound alone
+abbrev pub RangesWiden : Type 0
+RangesWiden =
+    (e : Environment) (path : List Fact) (from into : IntType) (t : Term) → IsInRange e path from t
+    → (least into ≤ℤ least from → Entails e path (Holds (Compare LessEqual (Number (least into)) t))) × (greatest from ≤ℤ greatest into → Entails e path (Holds (Compare LessEqual t (Number (greatest into)))))

@@ -28,7 +28,8 @@ pub use laws::{changes_keep, consuming_takes, joining_keeps, producing_adds};
 pub use loop_laws::{empty_cases_hold, entering_keeps};
 pub use predicate_laws::{closing_keeps, opening_keeps};
 pub use range_laws::{
-    changes_keep_types, consuming_keeps_types, facts_keep_types, loading_keeps_types,
-    producing_keeps_types, setting_keeps_types, storing_keeps_types, taking_keeps_types,
+    allocating_keeps_types, changes_keep_types, consuming_keeps_types, facts_keep_types,
+    loading_keeps_types, naming_keeps_types, producing_keeps_types, ranges_widen,
+    setting_keeps_types, storing_keeps_types, taking_keeps_types,
 };
 pub use sort_laws::closed_sorts_have_values;

@@ -1,6 +1,6 @@
 //! The rules keep the sorts and ranges of symbolic states. Each function does nothing; its contract is the law.
 
-ghost use Rattle.vf_rules.specs.Ranges.{FactsKeepTypes, ChangesKeepTypes, SettingKeepsTypes, LoadingKeepsTypes, TakingKeepsTypes, StoringKeepsTypes, ProducingKeepsTypes, ConsumingKeepsTypes};
+ghost use Rattle.vf_rules.specs.Ranges.{FactsKeepTypes, ChangesKeepTypes, SettingKeepsTypes, LoadingKeepsTypes, TakingKeepsTypes, StoringKeepsTypes, AllocatingKeepsTypes, NamingKeepsTypes, ProducingKeepsTypes, ConsumingKeepsTypes, RangesWiden};
 
 /// What is assumed, seen or known besides keeps the sorts and ranges of a state.
 pub fn facts_keep_types()
@@ -40,4 +40,19 @@ pub fn producing_keeps_types()
 /// Consuming an assertion keeps them in each state that is so got.
 pub fn consuming_keeps_types()
     ensures { ConsumingKeepsTypes }
+{}
+
+/// New memory keeps them.
+pub fn allocating_keeps_types()
+    ensures { AllocatingKeepsTypes }
+{}
+
+/// A symbol of which a sort is known may be given that sort.
+pub fn naming_keeps_types()
+    ensures { NamingKeepsTypes }
+{}
+
+/// A term in a type's range is within each bound of a type that is as wide there.
+pub fn ranges_widen()
+    ensures { RangesWiden }
 {}
