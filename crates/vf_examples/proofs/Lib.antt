@@ -32,3 +32,5 @@ pub mod TwoUnitsSeven
 pub mod TwoUnitsLemma
 pub mod TwoUnitsMain
 pub mod TwoUnits
+pub mod WildArguments
+pub mod WildInformation

@@ -13,3 +13,4 @@ pub mod Leaving
 pub mod Claiming
 pub mod ArrayCalls
 pub mod TwoUnits
+pub mod WildArguments

@@ -10,7 +10,8 @@
 //! read and written at an index), `counting_is_accepted` (a loop and a call through a pointer),
 //! `everything_is_accepted` (a loop, a heap, a recursive predicate, a mutex and two threads in one),
 //! `claiming_is_accepted` (three functions that keep the contracts of types which they claim, by what a chunk shows, a
-//! name for what is left open, and a case split), `unsafe_are_refused` (a program that comes to a fault and one that
+//! name for what is left open, and a case split), `passing_is_accepted` and `waiting_is_accepted` (a mutex and a thread
+//! of which the precondition leaves an argument open), `unsafe_are_refused` (a program that comes to a fault and one that
 //! comes to a race are accepted in no environment), `examples_leak_nothing`, `leaving_is_accepted` (a program with a
 //! leak); of several units: `two_units_are_accepted` (a call of a function and one of a lemma by the contracts of their
 //! prototypes in another file).
@@ -27,6 +28,7 @@ pub use lemmas::{
 };
 pub use programs::{
     box_is_accepted, claiming_is_accepted, counting_is_accepted, elements_are_accepted,
-    everything_is_accepted, examples_leak_nothing, leaving_is_accepted, unsafe_are_refused,
+    everything_is_accepted, examples_leak_nothing, leaving_is_accepted, passing_is_accepted,
+    unsafe_are_refused, waiting_is_accepted,
 };
 pub use units::two_units_are_accepted;

@@ -8,6 +8,7 @@ ghost use Rattle.vf_examples.specs.Everything.{EverythingIsAccepted};
 ghost use Rattle.vf_examples.specs.Leaving.{LeavingIsAccepted};
 ghost use Rattle.vf_examples.specs.NoLeaks.{ExamplesLeakNothing};
 ghost use Rattle.vf_examples.specs.Refused.{UnsafeAreRefused};
+ghost use Rattle.vf_examples.specs.WildArguments.{PassingIsAccepted, WaitingIsAccepted};
 
 /// A program that allocates a struct, writes and reads its field and frees it is accepted.
 pub fn box_is_accepted()
@@ -50,4 +51,14 @@ pub fn claiming_is_accepted()
 /// A function that returns `a[i]` and one that sets it are accepted, with what `ints_nth` and `ints_set` give.
 pub fn elements_are_accepted()
     ensures { ElementsAreAccepted }
+{}
+
+/// A function is accepted that acquires a mutex of which its precondition leaves the predicate value open.
+pub fn passing_is_accepted()
+    ensures { PassingIsAccepted }
+{}
+
+/// A function is accepted that joins a thread of which its precondition leaves the information open.
+pub fn waiting_is_accepted()
+    ensures { WaitingIsAccepted }
 {}

@@ -11,8 +11,10 @@ pub mod CaseNames
 pub mod Consumes
 pub mod Told
 pub mod Opening
+pub mod Inhabited
 pub mod Loops
 pub mod Cases
 pub mod Evaluates
 pub mod LemmaCalls
 pub mod GhostLaws
+pub mod Ranges

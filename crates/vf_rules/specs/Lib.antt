@@ -8,6 +8,7 @@ pub mod Consume
 pub mod Laws
 pub mod Predicates
 pub mod PredicateLaws
+pub mod Inhabited
 pub mod Loops
 pub mod LoopLaws
 pub mod Cases
@@ -20,3 +21,4 @@ pub mod Accept
 pub mod GhostSteps
 pub mod Claims
 pub mod GhostLaws
+pub mod Ranges

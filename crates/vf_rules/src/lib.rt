@@ -13,16 +13,24 @@
 //! claims: with all of these ghost steps but leaks and loops (`specs/GhostSteps`) between its parts, the other
 //! precondition is produced, the own one consumed, the own postcondition produced and the other one consumed. Premises
 //! are semantic. Laws: `producing_adds`, `consuming_takes`, `joining_keeps`, `changes_keep`, `opening_keeps`,
-//! `closing_keeps`, `entering_keeps`, `empty_cases_hold`; annotations that need no rule of their own:
-//! `asserting_is_accepted`, `choosing_is_accepted`.
+//! `closing_keeps`, `entering_keeps`, `empty_cases_hold`; that sorts have values: `closed_sorts_have_values`; annotations
+//! that need no rule of their own: `asserting_is_accepted`, `choosing_is_accepted`.
 #![tactic(auto)]
 
 mod ghost_laws;
 mod laws;
 mod loop_laws;
 mod predicate_laws;
+mod range_laws;
+mod sort_laws;
 
 pub use ghost_laws::{asserting_is_accepted, choosing_is_accepted};
 pub use laws::{changes_keep, consuming_takes, joining_keeps, producing_adds};
 pub use loop_laws::{empty_cases_hold, entering_keeps};
 pub use predicate_laws::{closing_keeps, opening_keeps};
+pub use range_laws::{
+    allocating_keeps_types, changes_keep_types, consuming_keeps_types, facts_keep_types,
+    loading_keeps_types, naming_keeps_types, producing_keeps_types, ranges_widen,
+    setting_keeps_types, storing_keeps_types, taking_keeps_types,
+};
+pub use sort_laws::closed_sorts_have_values;
