@@ -12,8 +12,10 @@
 //! coming to a loop's head. A claim is a refinement: with all of these ghost steps but leaks and loops
 //! (`specs/GhostSteps`) between its parts, the type's precondition is produced, the own one consumed, the own
 //! postcondition produced and the type's consumed. Premises are semantic. Laws: `producing_adds`, `consuming_takes`,
-//! `joining_keeps`, `changes_keep`, `opening_keeps`, `closing_keeps`, `entering_keeps`, `empty_cases_hold`; that sorts have values: `closed_sorts_have_values`; annotations
-//! that need no rule of their own: `asserting_is_accepted`, `choosing_is_accepted`.
+//! `joining_keeps`, `changes_keep`, `opening_keeps`, `closing_keeps`, `entering_keeps`, `empty_cases_hold`; that sorts
+//! have values: `closed_sorts_have_values`; the sorts and ranges of a state (`specs/Ranges`), which rules keep:
+//! `producing_keeps_types`, `consuming_keeps_types` and others; annotations that need no rule of their own:
+//! `asserting_is_accepted`, `choosing_is_accepted`.
 #![tactic(auto)]
 
 mod ghost_laws;
