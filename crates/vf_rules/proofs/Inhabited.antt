@@ -1,5 +1,5 @@
 -- Every closed sort has a value where each datatype does.
-use Rattle.std.proofs.Common.{◌≡◌, ℕ, zero, suc, pos, true, List, [], ◌∷◌, slice_get, Some, None, refl, subst, inl, inr, arith}
+use Rattle.std.proofs.Common.{◌≡◌, zero, suc, pos, true, List, [], ◌∷◌, Some, None, refl, subst, inl, inr, arith}
 use Rattle.vf_model.specs.Values as values
 use Rattle.vf_meaning.specs.Fractions.{whole, IsPositive}
 use Rattle.vf_meaning.specs.Ghost.{Sort, Integers, Truths, Pointers, Fractions, Anything, Parameter, Datatype, Predicates, Sorts, none, more, listed}

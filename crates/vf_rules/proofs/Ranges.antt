@@ -1,23 +1,23 @@
 -- The rules keep the sorts and ranges of symbolic states.
-use Rattle.std.proofs.Common.{◌≡◌, ℕ, ℤ, Bool, true, false, cond, zero, suc, ◌-◌, List, [], ◌∷◌, ◌++◌, drop, map, length, slice_get, slice_set, Option, Some, None, refl, sym, ap, subst, ◌∙◌, ◌⊎◌, inl, inr, arith}
+use Rattle.std.proofs.Common.{◌≡◌, ℕ, ℤ, Bool, true, false, cond, zero, suc, ◌-◌, List, [], ◌∷◌, ◌++◌, drop, map, slice_get, slice_set, Option, Some, None, refl, sym, ap, subst, ◌∙◌, ◌⊎◌, inl, inr, arith}
 use Rattle.std.specs.Prelude.{◌≤ℤ◌, ◌==◌, int_le}
 use Rattle.std.proofs.lemmas.Int.{ints}
 use Rattle.std.proofs.lemmas.Bool.Decides.{nat_tests}
 use Rattle.vf_tree.specs.Core.{Identity, Field, TypeTree, ProgramTree, NotEqual}
-use Rattle.vf_model.specs.Values.{Value, number_of}
+use Rattle.vf_model.specs.Values.{number_of}
 use Rattle.vf_model.specs.Integers.{least, greatest}
-use Rattle.vf_meaning.specs.Ghost.{Sort, Name, Pointers, Null, Compare}
+use Rattle.vf_meaning.specs.Ghost.{Sort, Pointers, Null, Compare}
 use Rattle.vf_meaning.specs.Valuations.{Valuation}
 use Rattle.vf_meaning.specs.Assertions.{ShareTree, Times, Taken, PatternTree, Is, Names, Wild, Assertion, Pure, Empty, Both, Choose, Switch, Cell, Chunk, Branches, no_branches, branch, Environment}
 use Rattle.vf_rules.specs.Terms.{Term, Store}
 use Rattle.vf_rules.specs.Fresh.{symbol}
-use Rattle.vf_rules.specs.States.{Fact, Holds, OfSort, value_in, CellOf, Of, SymbolicChunk, SymbolicState, Meets, IsMet, Entails, Infeasible, assuming, assuming_all, with_chunk, with_chunks}
+use Rattle.vf_rules.specs.States.{Fact, Holds, OfSort, value_in, CellOf, Of, SymbolicChunk, SymbolicState, Meets, Entails, assuming, assuming_all, with_chunk, with_chunks}
 use Rattle.vf_rules.specs.Types.{type_of_field, facts_of_type}
 use Rattle.vf_rules.specs.Produce.{facts_of_cell, NoArgumentSort, Given, ProducePatterns, ProduceShare, Produce, ProduceBranches}
-use Rattle.vf_rules.specs.Take.{Takes, takes_all, takes_part, takes_later, Removes, removes_here, removes_later, joined, Joins, JoinsRows, Merges, merges_here, merges_rows, merges_later, Renames, Replaces, replaces_here, replaces_later, Change, learns, merges, names_value, makes_value, Changes, no_change, and_change}
+use Rattle.vf_rules.specs.Take.{Takes, takes_all, takes_part, takes_later, Removes, removes_here, removes_later, joined, Joins, Merges, merges_here, merges_rows, merges_later, Replaces, replaces_here, replaces_later, Change, learns, merges, names_value, makes_value, Changes, no_change, and_change}
 use Rattle.vf_rules.specs.Consume.{EntailsAll, ConsumePatterns, ConsumeShare, Consume, ConsumeBranches}
 use Rattle.vf_rules.specs.Laws.{IsAmong}
-use Rattle.vf_rules.specs.Accept.{cell_chunk, block_chunk, field_at, new_chunks}
+use Rattle.vf_rules.specs.Accept.{cell_chunk, block_chunk, new_chunks}
 use Rattle.vf_rules.specs.Ranges.{LocalsTyped, ContentTyped, ContentsTyped, IsTypedState, FactsKeepTypes, ChangesKeepTypes, SettingKeepsTypes, LoadingKeepsTypes, TakingKeepsTypes, StoringKeepsTypes, AllocatingKeepsTypes, NamingKeepsTypes, ProducingKeepsTypes, ConsumingKeepsTypes, RangesWiden}
 
 some_same : {A : Type 0} {x y : A} → Some x ≡ Some y → x ≡ y

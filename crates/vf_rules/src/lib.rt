@@ -13,8 +13,9 @@
 //! claims: with all of these ghost steps but leaks and loops (`specs/GhostSteps`) between its parts, the other
 //! precondition is produced, the own one consumed, the own postcondition produced and the other one consumed. Premises
 //! are semantic. Laws: `producing_adds`, `consuming_takes`, `joining_keeps`, `changes_keep`, `opening_keeps`,
-//! `closing_keeps`, `entering_keeps`, `empty_cases_hold`; that sorts have values: `closed_sorts_have_values`; annotations
-//! that need no rule of their own: `asserting_is_accepted`, `choosing_is_accepted`.
+//! `closing_keeps`, `entering_keeps`, `empty_cases_hold`; that sorts have values: `closed_sorts_have_values`; the sorts and
+//! ranges of a state (`specs/Ranges`), which rules keep: `producing_keeps_types`, `consuming_keeps_types` and others;
+//! annotations that need no rule of their own: `asserting_is_accepted`, `choosing_is_accepted`.
 #![tactic(auto)]
 
 mod ghost_laws;
