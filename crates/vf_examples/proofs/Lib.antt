@@ -28,3 +28,4 @@ pub mod ArrayElements
 pub mod Halved
 pub mod WildArguments
 pub mod WildInformation
+pub mod ListValues
