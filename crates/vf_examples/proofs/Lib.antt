@@ -34,3 +34,4 @@ pub mod TwoUnitsMain
 pub mod TwoUnits
 pub mod WildArguments
 pub mod WildInformation
+pub mod ListValues

@@ -5,6 +5,7 @@ use Rattle.vf_model.specs.Values.{same_identity}
 use Rattle.vf_meaning.specs.Ghost.{Sort, Integers, Pointers, Parameter, Datatype, none, more, Numbered, ConstructorTree, Truth}
 use Rattle.vf_meaning.specs.Assertions.{Is, Wild, Named, Assertion, Pure, Empty, Switch, Cell, Chunk, no_branches, branch, BodyName, Plain, Instance, BodyTree, Environment}
 use Rattle.vf_rules.specs.Mutexes.{full, name}
+use Rattle.vf_rules.specs.Inhabited.{HaveDatatypesValues}
 use Rattle.vf_rules.specs.Lemmas.{OnArgument, LemmaTree}
 use Rattle.vf_lemmas.specs.Proves.{AreAcceptedLemmas}
 
@@ -102,6 +103,10 @@ walk = record {
   contract = record { sorts = ints ∷ []; parameters = 1; result = None; requires_this = Pure (Truth true); ensures_this = Pure (Truth true) };
   falls = OnArgument 0;
 }
+
+-- each datatype that is declared has a value at sorts that have one
+abbrev pub ListsHaveValues : Type 0
+ListsHaveValues = HaveDatatypesValues lemma_environment
 
 -- the three of them are accepted
 abbrev pub LemmasAreAccepted : Type 0

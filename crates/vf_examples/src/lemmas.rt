@@ -3,12 +3,17 @@
 ghost use Rattle.vf_examples.specs.ArrayCalls.{SplittingIsAccepted};
 ghost use Rattle.vf_examples.specs.Halving.{HalvingIsAccepted};
 ghost use Rattle.vf_examples.specs.Nesting.{NestingIsAccepted};
-ghost use Rattle.vf_examples.specs.SmallLemmas.{LemmasAreAccepted};
+ghost use Rattle.vf_examples.specs.SmallLemmas.{LemmasAreAccepted, ListsHaveValues};
 
 /// A lemma that opens a predicate and closes it again, and one that calls itself with the rest of a `list<int>`, whose
 /// first element it passes for an int, are accepted.
 pub fn lemmas_are_accepted()
     ensures { LemmasAreAccepted }
+{}
+
+/// The datatype `list<t>` has a value at every sort that has one.
+pub fn lists_have_values()
+    ensures { ListsHaveValues }
 {}
 
 /// A lemma is accepted that calls itself with what is inside of its precondition's first part, a predicate without memory.

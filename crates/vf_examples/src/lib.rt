@@ -5,7 +5,7 @@
 //! has an example as its contract.
 //!
 //! Of meaning: `held_mutex_is_meant`, `calls_are_kept` (a call through a pointer and a thread); of lemmas:
-//! `lemmas_are_accepted`, `nesting_is_accepted` (by depth), `halving_is_accepted` (by depth, in two shares),
+//! `lemmas_are_accepted`, `lists_have_values`, `nesting_is_accepted` (by depth), `halving_is_accepted` (by depth, in two shares),
 //! `splitting_is_accepted` (a call of `ints_split`); of programs: `box_is_accepted`, `elements_are_accepted` (an array
 //! read and written at an index), `counting_is_accepted` (a loop and a call through a pointer),
 //! `everything_is_accepted` (a loop, a heap, a recursive predicate, a mutex and two threads in one),
@@ -24,7 +24,8 @@ mod units;
 
 pub use instances::{calls_are_kept, held_mutex_is_meant};
 pub use lemmas::{
-    halving_is_accepted, lemmas_are_accepted, nesting_is_accepted, splitting_is_accepted,
+    halving_is_accepted, lemmas_are_accepted, lists_have_values, nesting_is_accepted,
+    splitting_is_accepted,
 };
 pub use programs::{
     box_is_accepted, claiming_is_accepted, counting_is_accepted, elements_are_accepted,
