@@ -24,14 +24,14 @@ loop-node-preserved c =
     record {
       nodes = length-set marks x true ∙ inv.nodes;
       marked = λ u m. elim (marked_less marks x u m) [
-          | inl same ↦ inr (subst (λ y. Contains nodes y) same among)
-          | inr old ↦ inv.marked u old
-        ];
+        | inl same ↦ inr (subst (λ y. Contains nodes y) same among)
+        | inr old ↦ inv.marked u old
+      ];
       kept = λ u m. marked_more marks x u within (inr (inv.kept u m));
       each = λ u h. marked_more marks x u within (elim (Contains-push_cases (take c.loop-node.node-index nodes) x u (subst (λ l. Contains l u) more h)) [
-          | inl old ↦ inr (inv.each u old)
-          | inr same ↦ inl same
-        ])
+        | inl old ↦ inr (inv.each u old)
+        | inr same ↦ inl same
+      ]);
     }
 
 pub returns-clause-each : goal.returns-clause-each

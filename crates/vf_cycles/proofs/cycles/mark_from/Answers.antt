@@ -42,10 +42,10 @@ returns-then-start-len-clause-marked c =
       nodes = m.nodes;
       kept = m.kept;
       marked = λ u h. elim (m.marked u h) [
-          | inl before ↦ inl before
-          | inr among ↦ inr (subst (λ l. Contains l u) part among, long)
-        ];
-      all = λ h u among. m.each u (subst (λ l. Contains l u) (sym part) among)
+        | inl before ↦ inl before
+        | inr among ↦ inr (subst (λ l. Contains l u) part among, long)
+      ];
+      all = λ h u among. m.each u (subst (λ l. Contains l u) (sym part) among);
     }
 
 pub returns-else-start-len-clause-marked : goal.returns-else-start-len-clause-marked
@@ -66,5 +66,5 @@ returns-else-start-len-clause-marked c =
       nodes = refl;
       kept = λ u h. h;
       marked = λ u h. inl h;
-      all = λ long u among. absurd (let no : ⊥ = omega arith in no)
+      all = λ long u among. absurd (let no : ⊥ = omega arith in no);
     }

@@ -21,5 +21,5 @@ loop-node-init c =
       reached =
           subst (λ o. IsReached g.sources.items g.targets.items root w.finished.items o c.open_node.new.self.finished.items) (sym now)
           (subst (λ f. IsReached g.sources.items g.targets.items root w.finished.items (root ∷ []) f) (sym e.finished)
-            (starts_reached g.sources.items g.targets.items w.finished.items root))
+          (starts_reached g.sources.items g.targets.items w.finished.items root));
     }
