@@ -1,11 +1,11 @@
 -- How the ranks of nodes go on in a walk.
-use Rattle.std.proofs.Common.{◌≡◌, ◌⊎◌, ℕ, List, [], ◌∷◌, ◌++◌, refl, sym, subst, inl, inr}
+use Rattle.std.proofs.Common.{◌⊎◌, ℕ, List, [], ◌∷◌, ◌++◌, subst, inl, inr}
 use Rattle.std.specs.Prelude.{Contains}
 use Rattle.vf_cycles.specs.Reaching.{Way, Reaches}
 use Rattle.vf_cycles.specs.Graphs.{Edge}
 use Rattle.vf_cycles.specs.Walks.{IsPath, IsRanked}
 use Rattle.vf_cycles.proofs.Lists.{here, there, nowhere, front_or_behind, between_cases}
-use Rattle.vf_cycles.proofs.Ways.{one_step, step_then, then_step}
+use Rattle.vf_cycles.proofs.Ways.{one_step, step_then}
 
 -- more nodes in front
 pub ranked_more : (sources targets front more xs : List ℕ) → ((z : ℕ) → Contains front z → Contains more z) → IsRanked sources targets front xs → IsRanked sources targets more xs

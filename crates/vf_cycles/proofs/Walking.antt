@@ -1,5 +1,5 @@
 -- What is true of a walk stays true at each of its steps.
-use Rattle.std.proofs.Common.{◌≡◌, ◌⊎◌, ℕ, zero, ◌+◌, ◌-◌, ◌*◌, ◌<◌, ◌≤◌, suc, Bool, true, false, List, [], ◌∷◌, ◌++◌, reverse, replicate, length, get_or, refl, sym, ap, subst, ◌∙◌, inl, inr, arith, append_assoc, length-append}
+use Rattle.std.proofs.Common.{◌≡◌, ◌⊎◌, ℕ, zero, ◌+◌, ◌-◌, ◌*◌, ◌<◌, ◌≤◌, suc, Bool, true, false, List, [], ◌∷◌, ◌++◌, reverse, replicate, length, get_or, refl, sym, ap, subst, ◌∙◌, inl, inr, arith, append_assoc}
 use Rattle.std.specs.Prelude.{Contains, slice_index, slice_set, sum}
 use Rattle.std.proofs.lemmas.List.{get_or-set_same, get_or-set_other, length-set, length-replicate, append-nil, get_or_append_left, get_or_push}
 use Rattle.std.proofs.lemmas.List.Elements.{Contains-append_left, Contains-append_right, Contains-append_cases, Contains-push, Contains-push_cases}
@@ -7,8 +7,8 @@ use Rattle.std.proofs.lemmas.List.Sums.{sum_by-set}
 use Rattle.std.proofs.lemmas.Bool.{cases_eq}
 use Rattle.vf_cycles.specs.Reaching.{Reaches}
 use Rattle.vf_cycles.specs.Graphs.{Edge, AreEdges, IsMarked, EachOnce}
-use Rattle.vf_cycles.specs.Walks.{IsLast, AreChained, IsPath, IsRanked, IsWalk, IsReached, seen_nodes, work}
-use Rattle.vf_cycles.proofs.Lists.{here, there, nowhere, front_or_behind, between, between_itself, between_cases, once_between, reverse_push, in_reverse, from_reverse}
+use Rattle.vf_cycles.specs.Walks.{IsLast, AreChained, IsPath, IsRanked, IsWalk, IsReached, seen_nodes}
+use Rattle.vf_cycles.proofs.Lists.{here, nowhere, front_or_behind, between, between_itself, between_cases, once_between, reverse_push, from_reverse}
 use Rattle.vf_cycles.proofs.Ways.{one_step, then_step}
 use Rattle.vf_cycles.proofs.Ranks.{ranked_between, reach_out, path_front, path_push, path_reaches}
 

@@ -1,7 +1,6 @@
-use Rattle.std.proofs.Common.{◌≡◌, ◌<◌, ◌≤◌, ◌+◌, ◌-◌, ◌++◌, ℕ, [], List, length, reverse, take, drop, refl, sym, ap, subst, ◌∙◌, arith}
+use Rattle.std.proofs.Common.{◌≡◌, ◌<◌, ◌+◌, ◌-◌, ◌++◌, ℕ, [], length, reverse, take, drop, refl, sym, subst, ◌∙◌, arith}
 use Rattle.std.specs.Prelude.{Contains, slice_index}
 use Rattle.std.proofs.lemmas.List.Elements.{Contains-get_or}
-use Rattle.vf_cycles.specs.Graphs.{IsMarked}
 use Rattle.vf_cycles.specs.Walks.{IsRanked, IsWalk, IsMarkedFrom}
 use Rattle.vf_cycles.proofs.Components.{ranked_next, next_covered, next_loops, next_sound, next_complete}
 use Rattle.vf_cycles.proofs.cycles.mark_cycles.Goals as goal

@@ -1,4 +1,4 @@
-use Rattle.std.proofs.Common.{◌≡◌, ◌≤◌, ◌<◌, ℕ, [], length, reverse, take, drop}
+use Rattle.std.proofs.Common.{◌≡◌, ◌≤◌, ℕ, [], length, reverse, take, drop}
 use Rattle.std.specs.Prelude.{Contains}
 use Rattle.vf_cycles.specs.Reaching.{Reaches}
 use Rattle.vf_cycles.specs.Graphs.{Edge, IsMarked}

@@ -1,9 +1,8 @@
-use Rattle.std.proofs.Common.{◌≡◌, ◌<◌, ◌≤◌, ◌+◌, ◌-◌, ◌*◌, ◌++◌, [], ◌∷◌, ℕ, List, true, false, length, get_or, refl, sym, ap, subst, ◌∙◌, arith}
+use Rattle.std.proofs.Common.{◌≡◌, ◌<◌, ◌+◌, ◌-◌, ◌++◌, [], ◌∷◌, true, false, length, get_or, sym, ap, subst, ◌∙◌, arith}
 use Rattle.std.specs.Prelude.{slice_index, slice_set, sum}
 use Rattle.std.proofs.lemmas.List.{get_or_read, length_push}
 use Rattle.std.proofs.lemmas.List.Elements.{Contains-push}
-use Rattle.vf_cycles.specs.Graphs.{IsMarked}
-use Rattle.vf_cycles.specs.Walks.{IsWalk, IsReached, work}
+use Rattle.vf_cycles.specs.Walks.{IsWalk, IsReached}
 use Rattle.vf_cycles.proofs.Walking.{finishes, finishes_reached, opens_reached, top_within, edge_within, target_within, edge_followed, step_opens, step_stays, less_after, same_walk}
 use Rattle.vf_cycles.proofs.walk.Walk.step.Goals as goal
 
