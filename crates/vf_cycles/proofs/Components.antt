@@ -1,5 +1,5 @@
 -- Walks against the edges, from the nodes that were finished last.
-use Rattle.std.proofs.Common.{◌≡◌, ◌≢◌, ◌⊎◌, ℕ, suc, ◌+◌, ◌-◌, ◌<◌, ◌≤◌, Bool, true, false, List, [], ◌∷◌, ◌++◌, reverse, length, take, drop, get_or, refl, sym, ap, subst, ◌∙◌, inl, inr, arith}
+use Rattle.std.proofs.Common.{◌≡◌, ◌≢◌, ◌⊎◌, ℕ, ◌+◌, ◌<◌, ◌≤◌, Bool, List, [], ◌∷◌, ◌++◌, reverse, length, take, drop, sym, ap, subst, ◌∙◌, inl, inr, arith}
 use Rattle.std.specs.Prelude.{Contains, slice_index}
 use Rattle.std.proofs.lemmas.List.{take-append-drop, drop_more, take_more, reverse-append, reverse-reverse, append_assoc}
 use Rattle.std.proofs.lemmas.List.Elements.{Contains-append_left, Contains-append_right, Contains-append_cases}
@@ -42,7 +42,6 @@ module _ (count : ℕ) (sources targets order : List ℕ) (at root : ℕ) (finis
     (each : (u : ℕ) → Contains more u → (u ≡ root) ⊎ Reaches (Edge targets sources) root u)
     (covered : (u : ℕ) → Contains (drop (at + 1) order) u → Contains finished u)
     (ranked : IsRanked sources targets (drop (at + 1) order) (reverse (take (at + 1) order))) where
-
   pub front : reverse (take (at + 1) order) ≡ root ∷ reverse (take at order)
   front = ap reverse (take_more order at 0 within) ∙ reverse_push (take at order) (slice_index order at) ∙ ap (λ x. x ∷ reverse (take at order)) (sym is_root)
 
@@ -71,35 +70,36 @@ module _ (count : ℕ) (sources targets order : List ℕ) (at root : ℕ) (finis
       elim (Contains-append_cases (take at order) (drop at order) u there_) [
         | inl before ↦ in_reverse (take at order) u before
         | inr after ↦ elim (front_or_behind root u (drop (at + 1) order) (subst (λ l. Contains l u) behind after)) [
-            | inl same ↦ absurd (other (sym same))
-            | inr rest ↦ absurd (is_new u m (covered u rest))
-          ]
+          | inl same ↦ absurd (other (sym same))
+          | inr rest ↦ absurd (is_new u m (covered u rest))
+        ]
       ]
 
   to_root : (u : ℕ) → Contains more u → u ≢ root → Reaches (Edge sources targets) u root
   to_root u m other = elim (each u m) [
-      | inl same ↦ absurd (other same)
-      | inr reach ↦ turned (Edge targets sources) (Edge sources targets) (edge_turned targets sources (sym pairs)) root u reach
-    ]
+    | inl same ↦ absurd (other same)
+    | inr reach ↦ turned (Edge targets sources) (Edge sources targets) (edge_turned targets sources (sym pairs)) root u reach
+  ]
 
   from_root : (u : ℕ) → Contains more u → u ≢ root → Reaches (Edge sources targets) root u
   from_root u m other = elim (heads.0 u (in_front u m other) (to_root u m other)) [
-      | inl back ↦ back
-      | inr out ↦ absurd (is_new u m (closed_back sources targets finished seen left pairs old u out.0 (covered out.0 out.1) out.2))
-    ]
+    | inl back ↦ back
+    | inr out ↦ absurd (is_new u m (closed_back sources targets finished seen left pairs old u out.0 (covered out.0 out.1) out.2))
+  ]
 
   around : (u : ℕ) → Contains more u → u ≢ root → Reaches (Edge sources targets) root root × Reaches (Edge sources targets) u u
-  around u m other =
-      (both_ways (Edge sources targets) root u root (from_root u m other) (to_root u m other),
-       both_ways (Edge sources targets) u root u (to_root u m other) (from_root u m other))
+  around u m other = (
+    both_ways (Edge sources targets) root u root (from_root u m other) (to_root u m other),
+    both_ways (Edge sources targets) u root u (to_root u m other) (from_root u m other),
+  )
 
   another : (xs : List ℕ) → EachOnce xs → 1 < length xs → (u : ℕ) × Contains xs u × (u ≢ root)
   another [] once long = absurd (let no : ⊥ = omega arith in no)
   another (x ∷ []) once long = absurd (let no : ⊥ = omega arith in no)
   another (x ∷ y ∷ ys) once long = elim (cases_eq x root) [
-      | inl same ↦ (y, there x y (y ∷ ys) (here y ys), λ e. once.0 (subst (λ z. Contains (y ∷ ys) z) (e ∙ sym same) (here y ys)))
-      | inr other ↦ (x, here x (y ∷ ys), other)
-    ]
+    | inl same ↦ (y, there x y (y ∷ ys) (here y ys), λ e. once.0 (subst (λ z. Contains (y ∷ ys) z) (e ∙ sym same) (here y ys)))
+    | inr other ↦ (x, here x (y ∷ ys), other)
+  ]
 
   more_once : EachOnce more
   more_once = subst EachOnce (reverse-reverse more) (once_reverse (reverse more) (once_front (reverse more) (reverse finished) (subst EachOnce (reverse-append finished more) new.once)))
@@ -107,32 +107,32 @@ module _ (count : ℕ) (sources targets order : List ℕ) (at root : ℕ) (finis
   -- where more than one node is new, each of them reaches itself
   pub all_around : 1 < length more → (u : ℕ) → Contains more u → Reaches (Edge sources targets) u u
   all_around long u m = elim (cases_eq u root) [
-      | inl same ↦ let other = another more more_once long in
+    | inl same ↦ let other = another more more_once long in
         subst (λ x. Reaches (Edge sources targets) x x) (sym same) (around other.0 other.1 other.2).0
-      | inr other ↦ (around u m other).1
-    ]
+    | inr other ↦ (around u m other).1
+  ]
 
   only : (xs : List ℕ) → length xs ≤ 1 → Contains xs root → (u : ℕ) → Contains xs u → u ≡ root
   only [] short r u c = absurd (nowhere u c)
   only (x ∷ []) short r u c = elim (front_or_behind x u [] c) [
-      | inl same ↦ elim (front_or_behind x root [] r) [
-          | inl is ↦ sym same ∙ is
-          | inr none ↦ absurd (nowhere root none)
-        ]
-      | inr none ↦ absurd (nowhere u none)
+    | inl same ↦ elim (front_or_behind x root [] r) [
+      | inl is ↦ sym same ∙ is
+      | inr none ↦ absurd (nowhere root none)
     ]
+    | inr none ↦ absurd (nowhere u none)
+  ]
   only (x ∷ y ∷ ys) short r u c = absurd (let no : ⊥ = omega arith in no)
 
   -- where the root alone is new, it reaches itself by an edge or not at all
   pub alone : length more ≤ 1 → Contains more root → Reaches (Edge sources targets) root root → Edge sources targets root root
   alone short r reach = elim (last_step (Edge sources targets) root root reach) [
-      | inl edge ↦ edge
-      | inr last ↦ elim (Contains-append_cases finished more last.0 (closed targets sources (finished ++ more) seen' left' new root last.0
-            (Contains-append_right finished more root r) (edge_turned sources targets pairs last.0 root last.2))) [
+    | inl edge ↦ edge
+    | inr last ↦ elim (Contains-append_cases finished more last.0 (closed targets sources (finished ++ more) seen' left' new root last.0
+        (Contains-append_right finished more root r) (edge_turned sources targets pairs last.0 root last.2))) [
           | inl old_ ↦ absurd (is_new root r (closed_back sources targets finished seen left pairs old root last.0 old_ last.1))
           | inr fresh ↦ subst (λ x. Edge sources targets x root) (only more short r last.0 fresh) last.2
         ]
-    ]
+  ]
 
   -- what is marked of the new nodes where the root alone is new
   pub only_root : length more ≤ 1 → Contains more root → (u : ℕ) → Contains more u → u ≡ root
@@ -145,21 +145,20 @@ module _ (count : ℕ) (sources targets order : List ℕ) (at root : ℕ) (finis
       (loops : (u : ℕ) → Edge sources targets u u → IsMarked marks u)
       (sound : (u : ℕ) → IsMarked marks u → Reaches (Edge sources targets) u u)
       (complete : (u : ℕ) → Contains finished u → Reaches (Edge sources targets) u u → IsMarked marks u) where
-
     pub next_covered : (u : ℕ) → Contains (drop at order) u → Contains (finished ++ more) u
     next_covered u c = elim (front_or_behind root u (drop (at + 1) order) (subst (λ l. Contains l u) behind c)) [
-        | inl is ↦ subst (λ x. Contains (finished ++ more) x) is marking.rooted
-        | inr rest ↦ Contains-append_left finished more u (covered u rest)
-      ]
+      | inl is ↦ subst (λ x. Contains (finished ++ more) x) is marking.rooted
+      | inr rest ↦ Contains-append_left finished more u (covered u rest)
+    ]
 
     pub next_loops : (u : ℕ) → Edge sources targets u u → IsMarked marks' u
     next_loops u e = marking.kept u (loops u e)
 
     pub next_sound : (u : ℕ) → IsMarked marks' u → Reaches (Edge sources targets) u u
     next_sound u m = elim (marking.marked u m) [
-        | inl old_ ↦ sound u old_
-        | inr fresh ↦ all_around (subst (λ l. 1 < length l) (sym same) fresh.1) u (subst (λ l. Contains l u) (sym same) fresh.0)
-      ]
+      | inl old_ ↦ sound u old_
+      | inr fresh ↦ all_around (subst (λ l. 1 < length l) (sym same) fresh.1) u (subst (λ l. Contains l u) (sym same) fresh.0)
+    ]
 
     fresh_marked : (u : ℕ) → Contains more u → Reaches (Edge sources targets) u u → (length more ≤ 1) ⊎ (1 < length more) → IsMarked marks' u
     fresh_marked u m r (inl short) =
@@ -171,9 +170,9 @@ module _ (count : ℕ) (sources targets order : List ℕ) (at root : ℕ) (finis
 
     pub next_complete : (u : ℕ) → Contains (finished ++ more) u → Reaches (Edge sources targets) u u → IsMarked marks' u
     next_complete u c r = elim (Contains-append_cases finished more u c) [
-        | inl old_ ↦ marking.kept u (complete u old_ r)
-        | inr fresh ↦ fresh_marked u fresh r (two_or_less (length more))
-      ]
+      | inl old_ ↦ marking.kept u (complete u old_ r)
+      | inr fresh ↦ fresh_marked u fresh r (two_or_less (length more))
+    ]
 
 -- ---- the order where no node reaches itself
 
@@ -181,39 +180,39 @@ none_in_front : (sources targets ahead xs rest : List ℕ) (u : ℕ) → HasNoCy
     → ((z : ℕ) → Contains ahead z → Reaches (Edge sources targets) u z → ⊥) → (w : ℕ) → Contains xs w → Reaches (Edge sources targets) u w → ⊥
 none_in_front sources targets ahead [] rest u none h out w c r = nowhere w c
 none_in_front sources targets ahead (x ∷ xs) rest u none h out w c r = elim (front_or_behind x w xs c) [
-    | inl same ↦ not_x (subst (λ z. Reaches (Edge sources targets) u z) (sym same) r)
-    | inr behind ↦ none_in_front sources targets (x ∷ ahead) xs rest u none h.1
-        (λ z d s. elim (front_or_behind x z ahead d) [
-            | inl is ↦ not_x (subst (λ y. Reaches (Edge sources targets) u y) (sym is) s)
-            | inr old ↦ out z old s
-          ]) w behind r
-  ]
+  | inl same ↦ not_x (subst (λ z. Reaches (Edge sources targets) u z) (sym same) r)
+  | inr behind ↦ none_in_front sources targets (x ∷ ahead) xs rest u none h.1
+      (λ z d s. elim (front_or_behind x z ahead d) [
+        | inl is ↦ not_x (subst (λ y. Reaches (Edge sources targets) u y) (sym is) s)
+        | inr old ↦ out z old s
+      ]) w behind r
+]
   where
     not_x : Reaches (Edge sources targets) u x → ⊥
     not_x s = elim (h.0 u (Contains-append_right xs (u ∷ rest) u (here u rest)) s) [
-        | inl back ↦ none u (both_ways (Edge sources targets) u x u s back)
-        | inr found ↦ out found.0 found.1 found.2
-      ]
+      | inl back ↦ none u (both_ways (Edge sources targets) u x u s back)
+      | inr found ↦ out found.0 found.1 found.2
+    ]
 
 pub is_order : (count : ℕ) (sources targets order : List ℕ) → AreEdges count sources targets → IsFinished count sources targets order → HasNoCycle sources targets → IsOrder count sources targets order
 is_order count sources targets order edges all none = record {
-    nodes = all.nodes;
-    each = all.each;
-    once = subst EachOnce (reverse-reverse order) (once_reverse (reverse order) all.once);
-    back = back
-  }
+  nodes = all.nodes;
+  each = all.each;
+  once = subst EachOnce (reverse-reverse order) (once_reverse (reverse order) all.once);
+  back = back;
+}
   where
     back : (before after : List ℕ) (u w : ℕ) → order ≡ before ++ u ∷ after → Edge sources targets u w → Contains before w
     back before after u w is edge =
         let turned_ : reverse order ≡ reverse after ++ u ∷ reverse before =
-            ap reverse is ∙ reverse-append before (u ∷ after) ∙ ap (λ l. l ++ reverse before) (reverse-append (u ∷ []) after) ∙ append_assoc (reverse after) (u ∷ []) (reverse before) in
+        ap reverse is ∙ reverse-append before (u ∷ after) ∙ ap (λ l. l ++ reverse before) (reverse-append (u ∷ []) after) ∙ append_assoc (reverse after) (u ∷ []) (reverse before) in
         let ranked_ = subst (IsRanked sources targets []) turned_ all.ranked in
         let reach = one_step (Edge sources targets) u w edge in
         let within : w < count = subst (λ x. x < count) edge.ends (edges.end edge.at (let p = edges.pairs in let b = edge.within in omega arith)) in
         elim (Contains-append_cases before (u ∷ after) w (subst (λ l. Contains l w) is (all.each w within))) [
           | inl there_ ↦ there_
           | inr rest ↦ elim (front_or_behind u w after rest) [
-              | inl same ↦ absurd (none u (subst (λ x. Reaches (Edge sources targets) u x) (sym same) reach))
-              | inr behind ↦ absurd (none_in_front sources targets [] (reverse after) (reverse before) u none ranked_ (λ z c r. nowhere z c) w (in_reverse after w behind) reach)
-            ]
+            | inl same ↦ absurd (none u (subst (λ x. Reaches (Edge sources targets) u x) (sym same) reach))
+            | inr behind ↦ absurd (none_in_front sources targets [] (reverse after) (reverse before) u none ranked_ (λ z c r. nowhere z c) w (in_reverse after w behind) reach)
+          ]
         ]

@@ -1,5 +1,5 @@
 -- What is true of a walk stays true at each of its steps.
-use Rattle.std.proofs.Common.{◌≡◌, ◌⊎◌, ℕ, zero, ◌+◌, ◌-◌, ◌*◌, ◌<◌, ◌≤◌, suc, Bool, true, false, List, [], ◌∷◌, ◌++◌, reverse, replicate, length, get_or, refl, sym, ap, subst, ◌∙◌, inl, inr, arith, append_assoc, length-append}
+use Rattle.std.proofs.Common.{◌≡◌, ◌⊎◌, ℕ, zero, ◌+◌, ◌-◌, ◌*◌, ◌<◌, ◌≤◌, suc, Bool, true, false, List, [], ◌∷◌, ◌++◌, reverse, replicate, length, get_or, refl, sym, ap, subst, ◌∙◌, inl, inr, arith, append_assoc}
 use Rattle.std.specs.Prelude.{Contains, slice_index, slice_set, sum}
 use Rattle.std.proofs.lemmas.List.{get_or-set_same, get_or-set_other, length-set, length-replicate, append-nil, get_or_append_left, get_or_push}
 use Rattle.std.proofs.lemmas.List.Elements.{Contains-append_left, Contains-append_right, Contains-append_cases, Contains-push, Contains-push_cases}
@@ -7,8 +7,8 @@ use Rattle.std.proofs.lemmas.List.Sums.{sum_by-set}
 use Rattle.std.proofs.lemmas.Bool.{cases_eq}
 use Rattle.vf_cycles.specs.Reaching.{Reaches}
 use Rattle.vf_cycles.specs.Graphs.{Edge, AreEdges, IsMarked, EachOnce}
-use Rattle.vf_cycles.specs.Walks.{IsLast, AreChained, IsPath, IsRanked, IsWalk, IsReached, seen_nodes, work}
-use Rattle.vf_cycles.proofs.Lists.{here, there, nowhere, front_or_behind, between, between_itself, between_cases, once_between, reverse_push, in_reverse, from_reverse}
+use Rattle.vf_cycles.specs.Walks.{IsLast, AreChained, IsPath, IsRanked, IsWalk, IsReached, seen_nodes}
+use Rattle.vf_cycles.proofs.Lists.{here, nowhere, front_or_behind, between, between_itself, between_cases, once_between, reverse_push, from_reverse}
 use Rattle.vf_cycles.proofs.Ways.{one_step, then_step}
 use Rattle.vf_cycles.proofs.Ranks.{ranked_between, reach_out, path_front, path_push, path_reaches}
 
@@ -34,37 +34,37 @@ finishes sources targets open_ finished seen left u w none =
       begins = w.begins;
       followed = subst (λ l. (k : ℕ) → k < length sources → slice_index left (slice_index sources k) ≤ k → Contains l (slice_index targets k)) same w.followed;
       done = λ v c. elim (Contains-push_cases finished u v c) [
-          | inl old ↦ w.done v old
-          | inr is ↦ subst (λ x. slice_index left x ≡ 0) is none
-        ]
+        | inl old ↦ w.done v old
+        | inr is ↦ subst (λ x. slice_index left x ≡ 0) is none
+      ];
     }
 
 pub finishes_reached : (sources targets base open_ finished : List ℕ) (root u : ℕ)
     → IsReached sources targets root base (open_ ++ u ∷ []) finished → IsReached sources targets root base open_ (finished ++ u ∷ [])
 finishes_reached sources targets base open_ finished root u r = record {
-    more = r.more ++ u ∷ [];
-    parts = ap (λ l. l ++ u ∷ []) r.parts ∙ append_assoc base r.more (u ∷ []);
-    rooted = moved root r.rooted;
-    each = λ v c. r.each v (moved_back v c)
-  }
+  more = r.more ++ u ∷ [];
+  parts = ap (λ l. l ++ u ∷ []) r.parts ∙ append_assoc base r.more (u ∷ []);
+  rooted = moved root r.rooted;
+  each = λ v c. r.each v (moved_back v c);
+}
   where
     moved : (v : ℕ) → Contains (r.more ++ (open_ ++ u ∷ [])) v → Contains ((r.more ++ u ∷ []) ++ open_) v
     moved v c = elim (Contains-append_cases r.more (open_ ++ u ∷ []) v c) [
-        | inl front ↦ Contains-append_left (r.more ++ u ∷ []) open_ v (Contains-append_left r.more (u ∷ []) v front)
-        | inr behind ↦ elim (Contains-push_cases open_ u v behind) [
-            | inl old ↦ Contains-append_right (r.more ++ u ∷ []) open_ v old
-            | inr is ↦ Contains-append_left (r.more ++ u ∷ []) open_ v (subst (λ x. Contains (r.more ++ u ∷ []) x) is (Contains-push r.more u))
-          ]
+      | inl front ↦ Contains-append_left (r.more ++ u ∷ []) open_ v (Contains-append_left r.more (u ∷ []) v front)
+      | inr behind ↦ elim (Contains-push_cases open_ u v behind) [
+        | inl old ↦ Contains-append_right (r.more ++ u ∷ []) open_ v old
+        | inr is ↦ Contains-append_left (r.more ++ u ∷ []) open_ v (subst (λ x. Contains (r.more ++ u ∷ []) x) is (Contains-push r.more u))
       ]
+    ]
 
     moved_back : (v : ℕ) → Contains ((r.more ++ u ∷ []) ++ open_) v → Contains (r.more ++ (open_ ++ u ∷ [])) v
     moved_back v c = elim (Contains-append_cases (r.more ++ u ∷ []) open_ v c) [
-        | inr old ↦ Contains-append_right r.more (open_ ++ u ∷ []) v (Contains-append_left open_ (u ∷ []) v old)
-        | inl front ↦ elim (Contains-push_cases r.more u v front) [
-            | inl old ↦ Contains-append_left r.more (open_ ++ u ∷ []) v old
-            | inr is ↦ Contains-append_right r.more (open_ ++ u ∷ []) v (subst (λ x. Contains (open_ ++ u ∷ []) x) is (Contains-push open_ u))
-          ]
+      | inr old ↦ Contains-append_right r.more (open_ ++ u ∷ []) v (Contains-append_left open_ (u ∷ []) v old)
+      | inl front ↦ elim (Contains-push_cases r.more u v front) [
+        | inl old ↦ Contains-append_left r.more (open_ ++ u ∷ []) v old
+        | inr is ↦ Contains-append_right r.more (open_ ++ u ∷ []) v (subst (λ x. Contains (open_ ++ u ∷ []) x) is (Contains-push open_ u))
       ]
+    ]
 
 -- ---- a node is opened
 
@@ -74,15 +74,15 @@ opened_same open_ finished w = sym (append_assoc open_ (w ∷ []) (reverse finis
 pub marked_more : (seen : List Bool) (w v : ℕ) → w < length seen → (w ≡ v) ⊎ IsMarked seen v → IsMarked (slice_set seen w true) v
 marked_more seen w v within (inl same) = subst (λ x. IsMarked (slice_set seen w true) x) same (get_or-set_same seen w true false within)
 marked_more seen w v within (inr old) = elim (cases_eq v w) [
-    | inl same ↦ subst (λ x. IsMarked (slice_set seen w true) x) (sym same) (get_or-set_same seen w true false within)
-    | inr apart ↦ get_or-set_other seen w v true false apart ∙ old
-  ]
+  | inl same ↦ subst (λ x. IsMarked (slice_set seen w true) x) (sym same) (get_or-set_same seen w true false within)
+  | inr apart ↦ get_or-set_other seen w v true false apart ∙ old
+]
 
 pub marked_less : (seen : List Bool) (w v : ℕ) → IsMarked (slice_set seen w true) v → (w ≡ v) ⊎ IsMarked seen v
 marked_less seen w v h = elim (cases_eq v w) [
-    | inl same ↦ inl (sym same)
-    | inr apart ↦ inr (sym (get_or-set_other seen w v true false apart) ∙ h)
-  ]
+  | inl same ↦ inl (sym same)
+  | inr apart ↦ inr (sym (get_or-set_other seen w v true false apart) ∙ h)
+]
 
 -- a new node is opened behind the open ones, from which it is reached
 pub opens : (sources targets open_ finished : List ℕ) (seen : List Bool) (left : List ℕ) (w : ℕ) → length sources ≡ length targets
@@ -94,49 +94,49 @@ opens sources targets open_ finished seen left w pairs h within new path =
     let long : length (slice_set seen w true) ≡ length seen = length-set seen w true in
     let not_seen : Contains (seen_nodes open_ finished) w → ⊥ = λ c. new (h.marked w c) in
     let closed : (u v : ℕ) → Contains (reverse finished) u → Edge sources targets u v → Contains open_ v ⊎ Contains (reverse finished) v =
-        λ u v c e. Contains-append_cases open_ (reverse finished) v
-          (subst (λ x. Contains (seen_nodes open_ finished) x) e.ends (h.followed e.at e.within
-            (let none : slice_index left (slice_index sources e.at) ≡ 0 = ap (slice_index left) e.begins ∙ h.done u (from_reverse finished u c) in omega arith))) in
+    λ u v c e. Contains-append_cases open_ (reverse finished) v
+    (subst (λ x. Contains (seen_nodes open_ finished) x) e.ends (h.followed e.at e.within
+    (let none : slice_index left (slice_index sources e.at) ≡ 0 = ap (slice_index left) e.begins ∙ h.done u (from_reverse finished u c) in omega arith))) in
     record {
       nodes = h.nodes ∙ sym long;
       inside = λ v c. subst (λ n. v < n) (sym long) (elim (between_cases open_ (reverse finished) w v (subst (λ l. Contains l v) (sym same) c)) [
-          | inl is ↦ subst (λ x. x < length seen) is within
-          | inr old ↦ h.inside v old
-        ]);
+        | inl is ↦ subst (λ x. x < length seen) is within
+        | inr old ↦ h.inside v old
+      ]);
       marked = λ v c. marked_more seen w v within (elim (between_cases open_ (reverse finished) w v (subst (λ l. Contains l v) (sym same) c)) [
-          | inl is ↦ inl is
-          | inr old ↦ inr (h.marked v old)
-        ]);
+        | inl is ↦ inl is
+        | inr old ↦ inr (h.marked v old)
+      ]);
       known = λ v m. subst (λ l. Contains l v) same (elim (marked_less seen w v m) [
-          | inl is ↦ subst (λ x. Contains (open_ ++ w ∷ reverse finished) x) is (between_itself open_ (reverse finished) w)
-          | inr old ↦ between open_ (reverse finished) w v (h.known v old)
-        ]);
+        | inl is ↦ subst (λ x. Contains (open_ ++ w ∷ reverse finished) x) is (between_itself open_ (reverse finished) w)
+        | inr old ↦ between open_ (reverse finished) w v (h.known v old)
+      ]);
       once = subst EachOnce same (once_between open_ (reverse finished) w h.once not_seen);
       path = path;
       ranked = subst (IsRanked sources targets []) same (ranked_between sources targets [] open_ (reverse finished) w
-        (λ x c. path_reaches sources targets open_ w x path c)
-        (λ y c r. let out = reach_out sources targets open_ (reverse finished) y w closed
-            (λ d. not_seen (Contains-append_left open_ (reverse finished) w d)) (λ d. not_seen (Contains-append_right open_ (reverse finished) w d)) c r in
+          (λ x c. path_reaches sources targets open_ w x path c)
+          (λ y c r. let out = reach_out sources targets open_ (reverse finished) y w closed
+          (λ d. not_seen (Contains-append_left open_ (reverse finished) w d)) (λ d. not_seen (Contains-append_right open_ (reverse finished) w d)) c r in
           (out.0, inr out.1, out.2))
-        h.ranked);
+          h.ranked);
       within = λ v b. h.within v (subst (λ n. v < n) long b);
       begins = λ v b p. h.begins v (subst (λ n. v < n) long b) p;
       followed = λ k b l. subst (λ xs. Contains xs (slice_index targets k)) same (between open_ (reverse finished) w (slice_index targets k) (h.followed k b l));
-      done = h.done
+      done = h.done;
     }
 
 pub opens_reached : (sources targets base open_ finished : List ℕ) (root u w : ℕ)
     → Contains open_ u → Edge sources targets u w
     → IsReached sources targets root base open_ finished → IsReached sources targets root base (open_ ++ w ∷ []) finished
 opens_reached sources targets base open_ finished root u w in_open edge r = record {
-    more = r.more;
-    parts = r.parts;
-    rooted = subst (λ l. Contains l root) (append_assoc r.more open_ (w ∷ [])) (Contains-append_left (r.more ++ open_) (w ∷ []) root r.rooted);
-    each = λ v c. elim (Contains-push_cases (r.more ++ open_) w v (subst (λ l. Contains l v) (sym (append_assoc r.more open_ (w ∷ []))) c)) [
-        | inl old ↦ r.each v old
-        | inr is ↦ inr (subst (λ x. Reaches (Edge sources targets) root x) is (from_root (r.each u (Contains-append_right r.more open_ u in_open))))
-      ]
-  }
+  more = r.more;
+  parts = r.parts;
+  rooted = subst (λ l. Contains l root) (append_assoc r.more open_ (w ∷ [])) (Contains-append_left (r.more ++ open_) (w ∷ []) root r.rooted);
+  each = λ v c. elim (Contains-push_cases (r.more ++ open_) w v (subst (λ l. Contains l v) (sym (append_assoc r.more open_ (w ∷ []))) c)) [
+    | inl old ↦ r.each v old
+    | inr is ↦ inr (subst (λ x. Reaches (Edge sources targets) root x) is (from_root (r.each u (Contains-append_right r.more open_ u in_open))))
+  ];
+}
   where
     from_root : (u ≡ root) ⊎ Reaches (Edge sources targets) root u → Reaches (Edge sources targets) root w
     from_root (inl is) = one_step (Edge sources targets) root w (subst (λ x. Edge sources targets x w) is edge)
@@ -151,30 +151,30 @@ pub follows : (sources targets open_ finished : List ℕ) (seen : List Bool) (le
     → Contains (seen_nodes open_ finished) (slice_index targets (slice_index left u - 1))
     → IsWalk sources targets open_ finished seen (slice_set left u b)
 follows sources targets open_ finished seen left u b h within some last to = record {
-    nodes = length-set left u b ∙ h.nodes;
-    inside = h.inside;
-    marked = h.marked;
-    known = h.known;
-    once = h.once;
-    path = h.path;
-    ranked = h.ranked;
-    within = λ v in_v. elim (cases_eq v u) [
-        | inl same ↦ subst (λ n. n ≤ length sources) (sym (new v same)) (let most = h.within u within in omega (arith, last.within))
-        | inr apart ↦ subst (λ n. n ≤ length sources) (sym (other v apart)) (h.within v in_v)
-      ];
-    begins = λ v in_v. elim (cases_eq v u) [
-        | inl same ↦ subst (λ n. 0 < n → slice_index sources (n - 1) ≡ v) (sym (new v same)) (λ p. last.begins p ∙ h.begins u within some ∙ sym same)
-        | inr apart ↦ subst (λ n. 0 < n → slice_index sources (n - 1) ≡ v) (sym (other v apart)) (h.begins v in_v)
-      ];
-    followed = λ k in_k. elim (cases_eq (slice_index sources k) u) [
-        | inl same ↦ λ l. from_u k in_k same (subst (λ n. n ≤ k) (new (slice_index sources k) same) l)
-        | inr apart ↦ λ l. h.followed k in_k (subst (λ n. n ≤ k) (other (slice_index sources k) apart) l)
-      ];
-    done = λ v c. elim (cases_eq v u) [
-        | inl same ↦ absurd (let none : slice_index left u ≡ 0 = ap (slice_index left) (sym same) ∙ h.done v c in omega arith)
-        | inr apart ↦ other v apart ∙ h.done v c
-      ]
-  }
+  nodes = length-set left u b ∙ h.nodes;
+  inside = h.inside;
+  marked = h.marked;
+  known = h.known;
+  once = h.once;
+  path = h.path;
+  ranked = h.ranked;
+  within = λ v in_v. elim (cases_eq v u) [
+    | inl same ↦ subst (λ n. n ≤ length sources) (sym (new v same)) (let most = h.within u within in omega (arith, last.within))
+    | inr apart ↦ subst (λ n. n ≤ length sources) (sym (other v apart)) (h.within v in_v)
+  ];
+  begins = λ v in_v. elim (cases_eq v u) [
+    | inl same ↦ subst (λ n. 0 < n → slice_index sources (n - 1) ≡ v) (sym (new v same)) (λ p. last.begins p ∙ h.begins u within some ∙ sym same)
+    | inr apart ↦ subst (λ n. 0 < n → slice_index sources (n - 1) ≡ v) (sym (other v apart)) (h.begins v in_v)
+  ];
+  followed = λ k in_k. elim (cases_eq (slice_index sources k) u) [
+    | inl same ↦ λ l. from_u k in_k same (subst (λ n. n ≤ k) (new (slice_index sources k) same) l)
+    | inr apart ↦ λ l. h.followed k in_k (subst (λ n. n ≤ k) (other (slice_index sources k) apart) l)
+  ];
+  done = λ v c. elim (cases_eq v u) [
+    | inl same ↦ absurd (let none : slice_index left u ≡ 0 = ap (slice_index left) (sym same) ∙ h.done v c in omega arith)
+    | inr apart ↦ other v apart ∙ h.done v c
+  ];
+}
   where
     new : (v : ℕ) → v ≡ u → slice_index (slice_set left u b) v ≡ b
     new v same = ap (slice_index (slice_set left u b)) same ∙ get_or-set_same left u b 0 (let n = h.nodes in omega arith)
@@ -187,10 +187,10 @@ follows sources targets open_ finished seen left u b h within some last to = rec
 
     from_u : (k : ℕ) → k < length sources → slice_index sources k ≡ u → b ≤ k → Contains (seen_nodes open_ finished) (slice_index targets k)
     from_u k in_k same l = elim (at_or_behind k) [
-        | inl before ↦ absurd (last.none k l before (same ∙ sym (h.begins u within some)))
-        | inr (inl at) ↦ subst (λ n. Contains (seen_nodes open_ finished) (slice_index targets n)) (sym at) to
-        | inr (inr behind) ↦ h.followed k in_k (subst (λ v. slice_index left v ≤ k) (sym same) behind)
-      ]
+      | inl before ↦ absurd (last.none k l before (same ∙ sym (h.begins u within some)))
+      | inr (inl at) ↦ subst (λ n. Contains (seen_nodes open_ finished) (slice_index targets n)) (sym at) to
+      | inr (inr behind) ↦ h.followed k in_k (subst (λ v. slice_index left v ≤ k) (sym same) behind)
+    ]
 
 -- there is less to do where the edge before another is left of a node
 pub less_left : (left : List ℕ) (u b : ℕ) → u < length left → 0 < slice_index left u → b ≤ slice_index left u - 1 → 2 * sum (slice_set left u b) + 2 ≤ 2 * sum left
@@ -203,7 +203,6 @@ less_left left u b within some l =
 module _ (sources targets last before open_ finished : List ℕ) (seen : List Bool) (left : List ℕ) (u b t : ℕ)
     (edges : AreEdges (length seen) sources targets) (chained : AreChained (length seen) sources last before)
     (walk : IsWalk sources targets (open_ ++ u ∷ []) finished seen left) where
-
   pub top_within : u < length seen
   top_within = walk.inside u (Contains-append_left (open_ ++ u ∷ []) (reverse finished) u (Contains-push open_ u))
 
@@ -215,11 +214,11 @@ module _ (sources targets last before open_ finished : List ℕ) (seen : List Bo
 
   pub edge_followed : 0 < slice_index left u → t ≡ slice_index targets (slice_index left u - 1) → Edge sources targets u t
   edge_followed some is = record {
-      at = slice_index left u - 1;
-      within = edge_within some;
-      begins = walk.begins u top_within some;
-      ends = sym is
-    }
+    at = slice_index left u - 1;
+    within = edge_within some;
+    begins = walk.begins u top_within some;
+    ends = sym is;
+  }
 
   chain : 0 < slice_index left u → b ≡ slice_index before (slice_index left u - 1) → IsLast sources (slice_index sources (slice_index left u - 1)) (slice_index left u - 1) b
   chain some is = subst (IsLast sources (slice_index sources (slice_index left u - 1)) (slice_index left u - 1)) (sym is) (chained.befores (slice_index left u - 1) (edge_within some))
@@ -228,11 +227,11 @@ module _ (sources targets last before open_ finished : List ℕ) (seen : List Bo
       → IsWalk sources targets ((open_ ++ u ∷ []) ++ t ∷ []) finished (slice_set seen t true) (slice_set left u b)
   step_opens some is to new =
       let opened = opens sources targets (open_ ++ u ∷ []) finished seen left t edges.pairs walk (target_within some to) new
-          (path_push sources targets open_ u t walk.path (edge_followed some to)) in
+      (path_push sources targets open_ u t walk.path (edge_followed some to)) in
       let long : length (slice_set seen t true) ≡ length seen = length-set seen t true in
       let into : Contains (seen_nodes ((open_ ++ u ∷ []) ++ t ∷ []) finished) (slice_index targets (slice_index left u - 1)) =
-          subst (λ x. Contains (seen_nodes ((open_ ++ u ∷ []) ++ t ∷ []) finished) x) to
-          (Contains-append_left ((open_ ++ u ∷ []) ++ t ∷ []) (reverse finished) t (Contains-push (open_ ++ u ∷ []) t)) in
+      subst (λ x. Contains (seen_nodes ((open_ ++ u ∷ []) ++ t ∷ []) finished) x) to
+      (Contains-append_left ((open_ ++ u ∷ []) ++ t ∷ []) (reverse finished) t (Contains-push (open_ ++ u ∷ []) t)) in
       follows sources targets ((open_ ++ u ∷ []) ++ t ∷ []) finished (slice_set seen t true) left u b opened (subst (λ n. u < n) (sym long) top_within) some (chain some is) into
 
   pub step_stays : 0 < slice_index left u → b ≡ slice_index before (slice_index left u - 1) → t ≡ slice_index targets (slice_index left u - 1) → IsMarked seen t
@@ -253,14 +252,14 @@ same_walk sources targets o p f g s r l m eo ef es el w =
 
 pub starts_reached : (sources targets base : List ℕ) (root : ℕ) → IsReached sources targets root base (root ∷ []) base
 starts_reached sources targets base root = record {
-    more = [];
-    parts = sym (append-nil base);
-    rooted = here root [];
-    each = λ u c. elim (front_or_behind root u [] c) [
-        | inl same ↦ inl (sym same)
-        | inr none ↦ absurd (nowhere u none)
-      ]
-  }
+  more = [];
+  parts = sym (append-nil base);
+  rooted = here root [];
+  each = λ u c. elim (front_or_behind root u [] c) [
+    | inl same ↦ inl (sym same)
+    | inr none ↦ absurd (nowhere u none)
+  ];
+}
 
 -- ---- a walk starts
 
@@ -284,27 +283,27 @@ starts count sources targets last before edges chained =
       within = λ u b. (chained.lasts u (subst (λ n. u < n) long b)).within;
       begins = λ u b. (chained.lasts u (subst (λ n. u < n) long b)).begins;
       followed = λ k b l. absurd ((chained.lasts (slice_index sources k) (edges.begin k b)).none k l b refl);
-      done = λ u c. absurd (nowhere u c)
+      done = λ u c. absurd (nowhere u c);
     }
 
 -- ---- edges are chained one by one
 
 pub last_here : (sources : List ℕ) (u n l : ℕ) → IsLast sources u n l → slice_index sources n ≡ u → IsLast sources u (n + 1) (n + 1)
 last_here sources u n l h is = record {
-    within = omega arith;
-    begins = λ p. let at : n + 1 - 1 ≡ n = omega arith in ap (slice_index sources) at ∙ is;
-    none = λ k a b e. let no : ⊥ = omega arith in no
-  }
+  within = omega arith;
+  begins = λ p. let at : n + 1 - 1 ≡ n = omega arith in ap (slice_index sources) at ∙ is;
+  none = λ k a b e. let no : ⊥ = omega arith in no;
+}
 
 pub last_other : (sources : List ℕ) (u n l : ℕ) → IsLast sources u n l → (slice_index sources n ≡ u → ⊥) → IsLast sources u (n + 1) l
 last_other sources u n l h other = record {
-    within = let w = h.within in omega arith;
-    begins = h.begins;
-    none = λ k a b e. elim (below_or_at k n b) [
-        | inl below ↦ h.none k a below e
-        | inr at ↦ other (subst (λ j. slice_index sources j ≡ u) at e)
-      ]
-  }
+  within = let w = h.within in omega arith;
+  begins = h.begins;
+  none = λ k a b e. elim (below_or_at k n b) [
+    | inl below ↦ h.none k a below e
+    | inr at ↦ other (subst (λ j. slice_index sources j ≡ u) at e)
+  ];
+}
   where
     below_or_at : (k n : ℕ) → k < n + 1 → (k < n) ⊎ (k ≡ n)
     below_or_at k n h = grind arith
@@ -319,27 +318,27 @@ chain_more sources last before count edge x nodes edges begin lasts befores is =
   where
     lasts_more : (u : ℕ) → u < count → IsLast sources u (edge + 1) (slice_index (slice_set last (slice_index sources edge) (edge + 1)) u)
     lasts_more u b = elim (cases_eq u (slice_index sources edge)) [
-        | inl same ↦
+      | inl same ↦
           let now : slice_index (slice_set last (slice_index sources edge) (edge + 1)) u ≡ edge + 1 =
-              ap (slice_index (slice_set last (slice_index sources edge) (edge + 1))) same ∙ get_or-set_same last (slice_index sources edge) (edge + 1) 0 (omega arith) in
+          ap (slice_index (slice_set last (slice_index sources edge) (edge + 1))) same ∙ get_or-set_same last (slice_index sources edge) (edge + 1) 0 (omega arith) in
           subst (IsLast sources u (edge + 1)) (sym now) (last_here sources u edge (slice_index last u) (lasts u b) (sym same))
-        | inr apart ↦
+      | inr apart ↦
           let now : slice_index (slice_set last (slice_index sources edge) (edge + 1)) u ≡ slice_index last u = get_or-set_other last (slice_index sources edge) u (edge + 1) 0 apart in
           subst (IsLast sources u (edge + 1)) (sym now) (last_other sources u edge (slice_index last u) (lasts u b) (λ e. apart (sym e)))
-      ]
+    ]
 
     below_or_at : (k n : ℕ) → k < n + 1 → (k < n) ⊎ (k ≡ n)
     below_or_at k n h = grind arith
 
     befores_more : (k : ℕ) → k < edge + 1 → IsLast sources (slice_index sources k) k (slice_index (before ++ x ∷ []) k)
     befores_more k b = elim (below_or_at k edge b) [
-        | inl below ↦
+      | inl below ↦
           let now : slice_index (before ++ x ∷ []) k ≡ slice_index before k = get_or_append_left before (x ∷ []) 0 k (omega arith) in
           subst (IsLast sources (slice_index sources k) k) (sym now) (befores k below)
-        | inr at ↦
+      | inr at ↦
           let now : slice_index (before ++ x ∷ []) k ≡ slice_index last (slice_index sources k) =
-              get_or_push before x 0 k (edges ∙ sym at) ∙ is ∙ ap (λ j. slice_index last (slice_index sources j)) (sym at) in
+          get_or_push before x 0 k (edges ∙ sym at) ∙ is ∙ ap (λ j. slice_index last (slice_index sources j)) (sym at) in
           subst (IsLast sources (slice_index sources k) k) (sym now)
           (subst (λ n. IsLast sources (slice_index sources k) n (slice_index last (slice_index sources k))) (sym at)
-            (lasts (slice_index sources k) (subst (λ j. slice_index sources j < count) (sym at) begin)))
-      ]
+          (lasts (slice_index sources k) (subst (λ j. slice_index sources j < count) (sym at) begin)))
+    ]

@@ -37,9 +37,9 @@ carried R S f step a b r = carried_way R S f step a b r.through r.way
 last_of_way : {A : Type 0} (R : A → A → Type 0) (a b : A) (cs : List A) → Way R a cs b → R a b ⊎ ((c : A) × Reaches R a c × R c b)
 last_of_way R a b [] w = inl w
 last_of_way R a b (c ∷ cs) w = elim (last_of_way R c b cs w.1) [
-    | inl h ↦ inr (c, one_step R a c w.0, h)
-    | inr r ↦ inr (r.0, step_then R a c r.0 w.0 r.1, r.2)
-  ]
+  | inl h ↦ inr (c, one_step R a c w.0, h)
+  | inr r ↦ inr (r.0, step_then R a c r.0 w.0 r.1, r.2)
+]
 
 -- the last step of a way
 pub last_step : {A : Type 0} (R : A → A → Type 0) (a b : A) → Reaches R a b → R a b ⊎ ((c : A) × Reaches R a c × R c b)

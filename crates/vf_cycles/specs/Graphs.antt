@@ -1,5 +1,5 @@
 -- Graphs: the nodes are the numbers below a count, and the edges stand in two lists, where each begins and where it ends.
-use Rattle.std.specs.Prelude.{◌≡◌, ◌↔◌, ℕ, ◌<◌, Bool, true, false, List, [], ◌∷◌, ◌++◌, length, get_or, slice_index, Contains, All}
+use Rattle.std.specs.Prelude.{◌≡◌, ℕ, ◌<◌, Bool, true, false, List, [], ◌∷◌, ◌++◌, length, get_or, slice_index, Contains}
 use Rattle.vf_cycles.specs.Reaching.{Reaches}
 
 -- an edge goes from one node to another

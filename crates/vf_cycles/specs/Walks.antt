@@ -1,5 +1,5 @@
 -- Walks in depth through a graph: what is true at each step.
-use Rattle.std.specs.Prelude.{◌≡◌, ◌⊎◌, ◌↔◌, ℕ, ◌+◌, ◌-◌, ◌*◌, ◌<◌, ◌≤◌, Bool, true, false, List, [], ◌∷◌, ◌++◌, reverse, length, get_or, slice_index, Contains, sum}
+use Rattle.std.specs.Prelude.{◌≡◌, ◌⊎◌, ℕ, ◌+◌, ◌-◌, ◌*◌, ◌<◌, ◌≤◌, Bool, List, [], ◌∷◌, ◌++◌, reverse, length, slice_index, Contains, sum}
 use Rattle.vf_cycles.specs.Reaching.{Reaches}
 use Rattle.vf_cycles.specs.Graphs.{Edge, AreEdges, IsMarked, EachOnce}
 use Rattle.vf_cycles.specs.declared.graph.Graph.{Graph}
@@ -29,7 +29,7 @@ abbrev pub IsRanked : List ℕ → List ℕ → List ℕ → List ℕ → Type 0
 IsRanked sources targets front [] = Unit {0}
 IsRanked sources targets front (x ∷ xs) =
     ((y : ℕ) → Contains xs y → Reaches (Edge sources targets) y x
-        → Reaches (Edge sources targets) x y ⊎ ((z : ℕ) × Contains front z × Reaches (Edge sources targets) y z))
+    → Reaches (Edge sources targets) x y ⊎ ((z : ℕ) × Contains front z × Reaches (Edge sources targets) y z))
     × IsRanked sources targets (x ∷ front) xs
 
 -- the nodes that a walk has seen: those that are open, the first one first, and those that are finished, the last one first

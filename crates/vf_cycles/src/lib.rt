@@ -13,6 +13,3 @@ mod graph;
 mod walk;
 
 pub use cycles::{Cycles, find_cycles};
-
-#[cfg(test)]
-mod tests;

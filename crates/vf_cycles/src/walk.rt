@@ -60,9 +60,9 @@ impl Walk {
             < work self.old.opened.items self.old.left.items + 1) }
         ensures reached { OnOk result ((root : ℕ) (base : List ℕ)
             → IsReached graph.now.sources.items graph.now.targets.items root base
-                (self.old.opened.items ++ node ∷ []) self.old.finished.items
+            (self.old.opened.items ++ node ∷ []) self.old.finished.items
             → IsReached graph.now.sources.items graph.now.targets.items root base
-                self.new.opened.items self.new.finished.items) }
+            self.new.opened.items self.new.finished.items) }
     {
         let edge = self.left[node];
         if edge == 0 {

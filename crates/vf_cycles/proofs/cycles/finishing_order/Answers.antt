@@ -1,4 +1,4 @@
-use Rattle.std.proofs.Common.{◌≡◌, ◌⊎◌, ◌<◌, ◌≤◌, ◌+◌, ℕ, [], length, reverse, sym, subst, ◌∙◌, inl, inr, arith}
+use Rattle.std.proofs.Common.{◌≡◌, ◌⊎◌, ◌<◌, ◌+◌, ℕ, [], reverse, sym, subst, ◌∙◌, inl, inr, arith}
 use Rattle.std.specs.Prelude.{Contains}
 use Rattle.vf_cycles.specs.Walks.{IsRanked}
 use Rattle.vf_cycles.proofs.Lists.{in_reverse}
@@ -15,9 +15,9 @@ loop-root-preserved c =
       opened = e.opened;
       nodes = e.nodes ∙ c.loop-root.invariant.nodes;
       each = λ u b. elim (below_or_at u c.loop-root.root b) [
-          | inl below ↦ e.kept u (c.loop-root.invariant.each u below)
-          | inr at ↦ subst (λ x. Contains c.visit_unseen.new.self.finished.items x) (sym at) e.finished
-        ]
+        | inl below ↦ e.kept u (c.loop-root.invariant.each u below)
+        | inr at ↦ subst (λ x. Contains c.visit_unseen.new.self.finished.items x) (sym at) e.finished
+      ];
     }
 
 pub returns : goal.returns
@@ -29,5 +29,5 @@ returns c =
       each = λ u b. inv.each u (let end = c.loop-root-test.false in omega arith);
       once = inv.walk.once;
       ranked = subst (λ s. IsRanked s c.args.targets.now [] (reverse w.finished.items)) c.in_ok-graph.ensures.sources
-          (subst (λ t. IsRanked c.in_ok-graph.graph.sources.items t [] (reverse w.finished.items)) c.in_ok-graph.ensures.targets inv.walk.ranked)
+          (subst (λ t. IsRanked c.in_ok-graph.graph.sources.items t [] (reverse w.finished.items)) c.in_ok-graph.ensures.targets inv.walk.ranked);
     }

@@ -5,8 +5,8 @@ use Rattle.vf_cycles.proofs.cycles.finishing_order.Given as goal
 
 abbrev pub invariant-loop-root : goal.invariant-loop-root
 invariant-loop-root l = record {
-    walk : IsWalkOf l.graph [] l.walk;
-    opened : l.walk.opened.items ≡ [];
-    nodes : length l.walk.seen.items ≡ l.count;
-    each : (u : ℕ) → u < l.root → Contains l.walk.finished.items u
-  }
+  walk : IsWalkOf l.graph [] l.walk;
+  opened : l.walk.opened.items ≡ [];
+  nodes : length l.walk.seen.items ≡ l.count;
+  each : (u : ℕ) → u < l.root → Contains l.walk.finished.items u;
+}

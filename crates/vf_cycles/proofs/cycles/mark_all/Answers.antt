@@ -1,8 +1,7 @@
-use Rattle.std.proofs.Common.{◌≡◌, ◌+◌, ◌<◌, ◌≤◌, ◌⊎◌, [], ◌∷◌, ◌++◌, ℕ, List, true, length, take, get_or, sym, ap, subst, ◌∙◌, inl, inr, arith}
+use Rattle.std.proofs.Common.{◌≡◌, ◌+◌, ◌<◌, [], ◌∷◌, ◌++◌, true, length, take, sym, subst, ◌∙◌, inl, inr, arith}
 use Rattle.std.specs.Prelude.{Contains, slice_index}
 use Rattle.std.proofs.lemmas.List.{length-set, take_more, take_all}
 use Rattle.std.proofs.lemmas.List.Elements.{Contains-get_or, Contains-push_cases}
-use Rattle.vf_cycles.specs.Graphs.{IsMarked}
 use Rattle.vf_cycles.proofs.Walking.{marked_more, marked_less}
 use Rattle.vf_cycles.proofs.cycles.mark_all.Goals as goal
 
@@ -24,14 +23,14 @@ loop-node-preserved c =
     record {
       nodes = length-set marks x true ∙ inv.nodes;
       marked = λ u m. elim (marked_less marks x u m) [
-          | inl same ↦ inr (subst (λ y. Contains nodes y) same among)
-          | inr old ↦ inv.marked u old
-        ];
+        | inl same ↦ inr (subst (λ y. Contains nodes y) same among)
+        | inr old ↦ inv.marked u old
+      ];
       kept = λ u m. marked_more marks x u within (inr (inv.kept u m));
       each = λ u h. marked_more marks x u within (elim (Contains-push_cases (take c.loop-node.node-index nodes) x u (subst (λ l. Contains l u) more h)) [
-          | inl old ↦ inr (inv.each u old)
-          | inr same ↦ inl same
-        ])
+        | inl old ↦ inr (inv.each u old)
+        | inr same ↦ inl same
+      ]);
     }
 
 pub returns-clause-each : goal.returns-clause-each

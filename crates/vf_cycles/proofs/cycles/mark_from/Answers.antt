@@ -1,9 +1,7 @@
-use Rattle.std.proofs.Common.{◌≡◌, ◌<◌, ◌≤◌, ◌+◌, ◌-◌, ◌++◌, ◌⊎◌, ℕ, [], List, length, take, drop, refl, sym, ap, subst, ◌∙◌, inl, inr, arith}
+use Rattle.std.proofs.Common.{◌≡◌, ◌<◌, ◌+◌, ◌-◌, ◌++◌, ℕ, [], List, length, take, drop, refl, sym, ap, subst, ◌∙◌, inl, inr, arith}
 use Rattle.std.specs.Prelude.{Contains}
 use Rattle.std.proofs.lemmas.List.{take_rest, drop_at, append-nil, length-append}
 use Rattle.std.proofs.lemmas.List.Elements.{Contains-append_left, Contains-append_right}
-use Rattle.vf_cycles.specs.Graphs.{IsMarked}
-use Rattle.vf_cycles.specs.Walks.{IsReached}
 use Rattle.vf_cycles.proofs.Lists.{in_reverse}
 use Rattle.vf_cycles.proofs.cycles.mark_from.Goals as goal
 
@@ -42,10 +40,10 @@ returns-then-start-len-clause-marked c =
       nodes = m.nodes;
       kept = m.kept;
       marked = λ u h. elim (m.marked u h) [
-          | inl before ↦ inl before
-          | inr among ↦ inr (subst (λ l. Contains l u) part among, long)
-        ];
-      all = λ h u among. m.each u (subst (λ l. Contains l u) (sym part) among)
+        | inl before ↦ inl before
+        | inr among ↦ inr (subst (λ l. Contains l u) part among, long)
+      ];
+      all = λ h u among. m.each u (subst (λ l. Contains l u) (sym part) among);
     }
 
 pub returns-else-start-len-clause-marked : goal.returns-else-start-len-clause-marked
@@ -66,5 +64,5 @@ returns-else-start-len-clause-marked c =
       nodes = refl;
       kept = λ u h. h;
       marked = λ u h. inl h;
-      all = λ long u among. absurd (let no : ⊥ = omega arith in no)
+      all = λ long u among. absurd (let no : ⊥ = omega arith in no);
     }

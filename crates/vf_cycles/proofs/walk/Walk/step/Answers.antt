@@ -1,9 +1,8 @@
-use Rattle.std.proofs.Common.{◌≡◌, ◌<◌, ◌≤◌, ◌+◌, ◌-◌, ◌*◌, ◌++◌, [], ◌∷◌, ℕ, List, true, false, length, get_or, refl, sym, ap, subst, ◌∙◌, arith}
+use Rattle.std.proofs.Common.{◌≡◌, ◌<◌, ◌+◌, ◌-◌, ◌++◌, [], ◌∷◌, true, false, length, get_or, sym, ap, subst, ◌∙◌, arith}
 use Rattle.std.specs.Prelude.{slice_index, slice_set, sum}
 use Rattle.std.proofs.lemmas.List.{get_or_read, length_push}
 use Rattle.std.proofs.lemmas.List.Elements.{Contains-push}
-use Rattle.vf_cycles.specs.Graphs.{IsMarked}
-use Rattle.vf_cycles.specs.Walks.{IsWalk, IsReached, work}
+use Rattle.vf_cycles.specs.Walks.{IsWalk, IsReached}
 use Rattle.vf_cycles.proofs.Walking.{finishes, finishes_reached, opens_reached, top_within, edge_within, target_within, edge_followed, step_opens, step_stays, less_after, same_walk}
 use Rattle.vf_cycles.proofs.walk.Walk.step.Goals as goal
 
@@ -88,9 +87,9 @@ index-requires-2 c =
     let pairs = c.requires.graph.edges.pairs in
     let at : c.index-edge.result.now - 1 ≡ slice_index w.left.items u - 1 = omega arith in
     let b : c.index.result.now ≡ slice_index g.before.items (slice_index w.left.items u - 1) =
-        get_or_read g.before.items (c.index-edge.result.now - 1) c.index.result.now (omega arith) c.index.ensures 0 ∙ ap (slice_index g.before.items) at in
+    get_or_read g.before.items (c.index-edge.result.now - 1) c.index.result.now (omega arith) c.index.ensures 0 ∙ ap (slice_index g.before.items) at in
     let t : c.index-target.result.now ≡ slice_index g.targets.items (slice_index w.left.items u - 1) =
-        get_or_read g.targets.items (c.index-edge.result.now - 1) c.index-target.result.now (omega arith) c.index-target.ensures 0 ∙ ap (slice_index g.targets.items) at in
+    get_or_read g.targets.items (c.index-edge.result.now - 1) c.index-target.result.now (omega arith) c.index-target.ensures 0 ∙ ap (slice_index g.targets.items) at in
     let inside_t = target_within g.sources.items g.targets.items g.last.items g.before.items w.opened.items w.finished.items w.seen.items w.left.items u c.index.result.now c.index-target.result.now c.requires.graph.edges c.requires.graph.chained c.requires.walk some t in
     omega (arith, w.seen.ok.0)
 
@@ -109,9 +108,9 @@ open_node-requires c =
     let pairs = c.requires.graph.edges.pairs in
     let at : c.index-edge.result.now - 1 ≡ slice_index w.left.items u - 1 = omega arith in
     let b : c.index.result.now ≡ slice_index g.before.items (slice_index w.left.items u - 1) =
-        get_or_read g.before.items (c.index-edge.result.now - 1) c.index.result.now (omega arith) c.index.ensures 0 ∙ ap (slice_index g.before.items) at in
+    get_or_read g.before.items (c.index-edge.result.now - 1) c.index.result.now (omega arith) c.index.ensures 0 ∙ ap (slice_index g.before.items) at in
     let t : c.index-target.result.now ≡ slice_index g.targets.items (slice_index w.left.items u - 1) =
-        get_or_read g.targets.items (c.index-edge.result.now - 1) c.index-target.result.now (omega arith) c.index-target.ensures 0 ∙ ap (slice_index g.targets.items) at in
+    get_or_read g.targets.items (c.index-edge.result.now - 1) c.index-target.result.now (omega arith) c.index-target.ensures 0 ∙ ap (slice_index g.targets.items) at in
     target_within g.sources.items g.targets.items g.last.items g.before.items w.opened.items w.finished.items w.seen.items w.left.items u c.index.result.now c.index-target.result.now c.requires.graph.edges c.requires.graph.chained c.requires.walk some t
 
 pub returns-in_ok-open_node-clause-walk : goal.returns-in_ok-open_node-clause-walk
@@ -129,9 +128,9 @@ returns-in_ok-open_node-clause-walk c =
     let pairs = c.requires.graph.edges.pairs in
     let at : c.index-edge.result.now - 1 ≡ slice_index w.left.items u - 1 = omega arith in
     let b : c.index.result.now ≡ slice_index g.before.items (slice_index w.left.items u - 1) =
-        get_or_read g.before.items (c.index-edge.result.now - 1) c.index.result.now (omega arith) c.index.ensures 0 ∙ ap (slice_index g.before.items) at in
+    get_or_read g.before.items (c.index-edge.result.now - 1) c.index.result.now (omega arith) c.index.ensures 0 ∙ ap (slice_index g.before.items) at in
     let t : c.index-target.result.now ≡ slice_index g.targets.items (slice_index w.left.items u - 1) =
-        get_or_read g.targets.items (c.index-edge.result.now - 1) c.index-target.result.now (omega arith) c.index-target.ensures 0 ∙ ap (slice_index g.targets.items) at in
+    get_or_read g.targets.items (c.index-edge.result.now - 1) c.index-target.result.now (omega arith) c.index-target.ensures 0 ∙ ap (slice_index g.targets.items) at in
     let o = c.in_ok-open_node.ensures in
     let x = c.index-target.result.now in
     let opened : c.open_node.new.self.opened.items ≡ (w.opened.items ++ u ∷ []) ++ x ∷ [] = o.opened ∙ ap (λ l. l ++ x ∷ []) c.in_ok-push-2.ensures.items in
@@ -156,15 +155,15 @@ returns-in_ok-open_node-clause-less c =
     let pairs = c.requires.graph.edges.pairs in
     let at : c.index-edge.result.now - 1 ≡ slice_index w.left.items u - 1 = omega arith in
     let b : c.index.result.now ≡ slice_index g.before.items (slice_index w.left.items u - 1) =
-        get_or_read g.before.items (c.index-edge.result.now - 1) c.index.result.now (omega arith) c.index.ensures 0 ∙ ap (slice_index g.before.items) at in
+    get_or_read g.before.items (c.index-edge.result.now - 1) c.index.result.now (omega arith) c.index.ensures 0 ∙ ap (slice_index g.before.items) at in
     let t : c.index-target.result.now ≡ slice_index g.targets.items (slice_index w.left.items u - 1) =
-        get_or_read g.targets.items (c.index-edge.result.now - 1) c.index-target.result.now (omega arith) c.index-target.ensures 0 ∙ ap (slice_index g.targets.items) at in
+    get_or_read g.targets.items (c.index-edge.result.now - 1) c.index-target.result.now (omega arith) c.index-target.ensures 0 ∙ ap (slice_index g.targets.items) at in
     let o = c.in_ok-open_node.ensures in
     let x = c.index-target.result.now in
     let opened : c.open_node.new.self.opened.items ≡ (w.opened.items ++ u ∷ []) ++ x ∷ [] = o.opened ∙ ap (λ l. l ++ x ∷ []) c.in_ok-push-2.ensures.items in
     let less = less_after g.sources.items g.targets.items g.last.items g.before.items w.opened.items w.finished.items w.seen.items w.left.items u c.index.result.now c.index-target.result.now c.requires.graph.edges c.requires.graph.chained c.requires.walk some b in
     let long : length c.open_node.new.self.opened.items ≡ length w.opened.items + 1 + 1 =
-        ap length opened ∙ length_push (w.opened.items ++ u ∷ []) x ∙ ap (λ n. n + 1) (length_push w.opened.items u) in
+    ap length opened ∙ length_push (w.opened.items ++ u ∷ []) x ∙ ap (λ n. n + 1) (length_push w.opened.items u) in
     let left : sum c.open_node.new.self.left.items ≡ sum (slice_set w.left.items u c.index.result.now) = ap sum o.left in
     omega arith
 
@@ -183,16 +182,16 @@ returns-in_ok-open_node-clause-reached c = λ root base r.
     let pairs = c.requires.graph.edges.pairs in
     let at : c.index-edge.result.now - 1 ≡ slice_index w.left.items u - 1 = omega arith in
     let b : c.index.result.now ≡ slice_index g.before.items (slice_index w.left.items u - 1) =
-        get_or_read g.before.items (c.index-edge.result.now - 1) c.index.result.now (omega arith) c.index.ensures 0 ∙ ap (slice_index g.before.items) at in
+    get_or_read g.before.items (c.index-edge.result.now - 1) c.index.result.now (omega arith) c.index.ensures 0 ∙ ap (slice_index g.before.items) at in
     let t : c.index-target.result.now ≡ slice_index g.targets.items (slice_index w.left.items u - 1) =
-        get_or_read g.targets.items (c.index-edge.result.now - 1) c.index-target.result.now (omega arith) c.index-target.ensures 0 ∙ ap (slice_index g.targets.items) at in
+    get_or_read g.targets.items (c.index-edge.result.now - 1) c.index-target.result.now (omega arith) c.index-target.ensures 0 ∙ ap (slice_index g.targets.items) at in
     let o = c.in_ok-open_node.ensures in
     let x = c.index-target.result.now in
     let opened : c.open_node.new.self.opened.items ≡ (w.opened.items ++ u ∷ []) ++ x ∷ [] = o.opened ∙ ap (λ l. l ++ x ∷ []) c.in_ok-push-2.ensures.items in
     subst (λ l. IsReached g.sources.items g.targets.items root base l c.open_node.new.self.finished.items) (sym opened)
     (subst (λ f. IsReached g.sources.items g.targets.items root base ((w.opened.items ++ u ∷ []) ++ x ∷ []) f) (sym o.finished)
-      (opens_reached g.sources.items g.targets.items base (w.opened.items ++ u ∷ []) w.finished.items root u x (Contains-push w.opened.items u)
-        (edge_followed g.sources.items g.targets.items g.last.items g.before.items w.opened.items w.finished.items w.seen.items w.left.items u c.index.result.now c.index-target.result.now c.requires.graph.edges c.requires.graph.chained c.requires.walk some t) r))
+    (opens_reached g.sources.items g.targets.items base (w.opened.items ++ u ∷ []) w.finished.items root u x (Contains-push w.opened.items u)
+    (edge_followed g.sources.items g.targets.items g.last.items g.before.items w.opened.items w.finished.items w.seen.items w.left.items u c.index.result.now c.index-target.result.now c.requires.graph.edges c.requires.graph.chained c.requires.walk some t) r))
 
 pub returns-else-not-index-clause-walk : goal.returns-else-not-index-clause-walk
 returns-else-not-index-clause-walk c =
@@ -209,9 +208,9 @@ returns-else-not-index-clause-walk c =
     let pairs = c.requires.graph.edges.pairs in
     let at : c.index-edge.result.now - 1 ≡ slice_index w.left.items u - 1 = omega arith in
     let b : c.index.result.now ≡ slice_index g.before.items (slice_index w.left.items u - 1) =
-        get_or_read g.before.items (c.index-edge.result.now - 1) c.index.result.now (omega arith) c.index.ensures 0 ∙ ap (slice_index g.before.items) at in
+    get_or_read g.before.items (c.index-edge.result.now - 1) c.index.result.now (omega arith) c.index.ensures 0 ∙ ap (slice_index g.before.items) at in
     let t : c.index-target.result.now ≡ slice_index g.targets.items (slice_index w.left.items u - 1) =
-        get_or_read g.targets.items (c.index-edge.result.now - 1) c.index-target.result.now (omega arith) c.index-target.ensures 0 ∙ ap (slice_index g.targets.items) at in
+    get_or_read g.targets.items (c.index-edge.result.now - 1) c.index-target.result.now (omega arith) c.index-target.ensures 0 ∙ ap (slice_index g.targets.items) at in
     let x = c.index-target.result.now in
     let seen_read : c.index-2.result.now ≡ get_or w.seen.items x false = get_or_read w.seen.items x c.index-2.result.now (target_within g.sources.items g.targets.items g.last.items g.before.items w.opened.items w.finished.items w.seen.items w.left.items u c.index.result.now c.index-target.result.now c.requires.graph.edges c.requires.graph.chained c.requires.walk some t) c.index-2.ensures false in
     let pushed = c.in_ok-push-2.ensures.items in
@@ -233,9 +232,9 @@ returns-else-not-index-clause-less c =
     let pairs = c.requires.graph.edges.pairs in
     let at : c.index-edge.result.now - 1 ≡ slice_index w.left.items u - 1 = omega arith in
     let b : c.index.result.now ≡ slice_index g.before.items (slice_index w.left.items u - 1) =
-        get_or_read g.before.items (c.index-edge.result.now - 1) c.index.result.now (omega arith) c.index.ensures 0 ∙ ap (slice_index g.before.items) at in
+    get_or_read g.before.items (c.index-edge.result.now - 1) c.index.result.now (omega arith) c.index.ensures 0 ∙ ap (slice_index g.before.items) at in
     let t : c.index-target.result.now ≡ slice_index g.targets.items (slice_index w.left.items u - 1) =
-        get_or_read g.targets.items (c.index-edge.result.now - 1) c.index-target.result.now (omega arith) c.index-target.ensures 0 ∙ ap (slice_index g.targets.items) at in
+    get_or_read g.targets.items (c.index-edge.result.now - 1) c.index-target.result.now (omega arith) c.index-target.ensures 0 ∙ ap (slice_index g.targets.items) at in
     let less = less_after g.sources.items g.targets.items g.last.items g.before.items w.opened.items w.finished.items w.seen.items w.left.items u c.index.result.now c.index-target.result.now c.requires.graph.edges c.requires.graph.chained c.requires.walk some b in
     let long : length c.push-2.new.self.items ≡ length w.opened.items + 1 = ap length c.in_ok-push-2.ensures.items ∙ length_push w.opened.items u in
     omega arith

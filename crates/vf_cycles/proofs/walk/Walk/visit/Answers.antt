@@ -1,4 +1,4 @@
-use Rattle.std.proofs.Common.{◌≡◌, ◌<◌, ◌++◌, [], ◌∷◌, ℕ, List, true, length, refl, sym, ap, subst, ◌∙◌}
+use Rattle.std.proofs.Common.{◌≡◌, ◌++◌, [], ◌∷◌, true, length, sym, ap, subst, ◌∙◌}
 use Rattle.std.specs.Prelude.{slice_set}
 use Rattle.std.proofs.lemmas.List.{length-set}
 use Rattle.vf_cycles.specs.Walks.{IsReached}
@@ -21,5 +21,5 @@ loop-node-init c =
       reached =
           subst (λ o. IsReached g.sources.items g.targets.items root w.finished.items o c.open_node.new.self.finished.items) (sym now)
           (subst (λ f. IsReached g.sources.items g.targets.items root w.finished.items (root ∷ []) f) (sym e.finished)
-            (starts_reached g.sources.items g.targets.items w.finished.items root))
+          (starts_reached g.sources.items g.targets.items w.finished.items root));
     }
