@@ -7,6 +7,9 @@ mod Items
 mod Lists
 pub mod Adding
 mod Standing
+mod Growth
+mod Below
+mod Ranked
 mod Identities
 mod Told
 mod Numbers

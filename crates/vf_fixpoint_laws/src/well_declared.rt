@@ -12,12 +12,12 @@
 //! `predicates_are_declared_as_told` (what may be built as a predicate where the names up to one count may be built
 //! as it by the whole unit, since a predicate is declared over the sorts that were told of it ahead), and so
 //! `accepted_units_are_covered` (all that an accepted unit declares covers what is declared up to each of its
-//! fixpoints); examples: `boxes_stand` (a unit of which all of this is so), `marked_names_share_identities` (of one
+//! fixpoints), `accepted_sorts_have_values` (each sort over its datatypes has a value); examples: `boxes_stand` (a unit of which all of this is so), `marked_names_share_identities` (of one
 //! with a `#` in a name it is not). That names are identifiers, and so have no `#`, is a premise, which units that
 //! are read from texts meet (`vf_fixpoint_laws::identifiers`).
 
 ghost use Rattle.vf_fixpoint_laws.specs.well_declared.Example.{BoxesStand};
-ghost use Rattle.vf_fixpoint_laws.specs.well_declared.Laws.{AcceptedFixpointsAreWritten, AcceptedUnitsAreCovered, AcceptedUnitsAreWellDeclared, DeclarationsGoOn, PredicatesAreDeclaredAsTold, TermsGoOn};
+ghost use Rattle.vf_fixpoint_laws.specs.well_declared.Laws.{AcceptedFixpointsAreWritten, AcceptedSortsHaveValues, AcceptedUnitsAreCovered, AcceptedUnitsAreWellDeclared, DeclarationsGoOn, PredicatesAreDeclaredAsTold, TermsGoOn};
 ghost use Rattle.vf_fixpoint_laws.specs.well_declared.Marked.{MarkedNamesShareIdentities};
 
 /// What an accepted unit declares is well declared, as long as no `#` stands in its names.
@@ -60,4 +60,10 @@ pub fn marked_names_share_identities()
 /// So all that an accepted unit declares covers what is declared up to each of its fixpoints.
 pub fn accepted_units_are_covered()
     ensures { AcceptedUnitsAreCovered }
+{}
+
+/// The datatypes of an accepted unit stand in order, so each sort over them has a value, every sort but a datatype being
+/// taken to have one.
+pub fn accepted_sorts_have_values()
+    ensures { AcceptedSortsHaveValues }
 {}

@@ -1,5 +1,5 @@
 -- What an accepted unit declares is well declared, and its fixpoints stand among its items.
-use Rattle.std.proofs.Common.{◌≡◌, refl, sym, ◌∙◌, ap, ℕ, Bool, true, false, ◌||◌, if◌then◌else◌, nat_eq, List, ◌∷◌, Option, Some, None, Ok}
+use Rattle.std.proofs.Common.{◌≡◌, refl, sym, ◌∙◌, ap, ℕ, Bool, true, false, ◌||◌, if◌then◌else◌, nat_eq, List, ◌∷◌, Option, Some, None, Ok, arith}
 use Rattle.std.specs.Cmp.{nat_eq_equiv}
 use Rattle.vf_tree.specs.Core.{Identity}
 use Rattle.vf_names.specs.Names.{number_of}
@@ -23,14 +23,16 @@ use Rattle.vf_defining.specs.Bodies.{files_of}
 use Rattle.vf_fixpoint_laws.proofs.definable.Extending.{core}
 use Rattle.vf_env_laws.proofs.Laws.{names_are_declared}
 use Rattle.vf_fixpoint_laws.specs.well_declared.Names.{is_marked}
-use Rattle.vf_fixpoint_laws.specs.well_declared.Laws.{AcceptedFixpointsAreWritten, AcceptedUnitsAreWellDeclared}
+use Rattle.vf_fixpoint_laws.specs.well_declared.Laws.{AcceptedFixpointsAreWritten, AcceptedSortsHaveValues, AcceptedUnitsAreWellDeclared}
 use Rattle.vf_fixpoint_laws.proofs.well_declared.Adding.{Means}
 use Rattle.vf_fixpoint_laws.proofs.well_declared.Identities.{identity_tells, unmarked_name}
 use Rattle.vf_fixpoint_laws.proofs.well_declared.Lists.{some_same}
+use Rattle.vf_datatypes.proofs.Values.{values_are_built}
+use Rattle.vf_fixpoint_laws.proofs.well_declared.Ranked.{items_ranked, Ranked}
 use Rattle.vf_fixpoint_laws.proofs.well_declared.Standing.{IsOfItem, Stands, items_stand}
 
 -- ---- the end of a unit
-nothing_declared : (f : Files) (xs : List Item) → Stands xs (core (beginning f xs))
+pub nothing_declared : (f : Files) (xs : List Item) → Stands xs (core (beginning f xs))
 nothing_declared f xs = record { ordered = record { beside = refl; below = λ x d n e m. absurd cc }; each = λ x n g m. nowhere m }
   where
     nowhere : {A : Type 0} {x : List ℕ} {n : ℕ} {g : GhostDeclaration} → Means (core (beginning f xs)) x n g → A
@@ -116,3 +118,17 @@ fixpoint_written s paths xs c x h w = record {
 
 pub accepted_fixpoints_are_written : AcceptedFixpointsAreWritten
 accepted_fixpoints_are_written f xs s paths h c x j = fixpoint_written s paths xs c x j ((whole_stands f xs s h).each j.name j.number (ghosts.Fixpoint x) (record { declaration = j.declaration; found = j.found; meaning = j.means; stands = j.stands }))
+
+-- ---- values
+pub accepted_sorts_have_values : AcceptedSortsHaveValues
+accepted_sorts_have_values f xs s h = (r.order, values_are_built s r.order)
+  where
+    empty : Ranked (beginning f xs)
+    empty = record {
+      order = record { inhabited = λ k l. absurd (omega (arith, l)); ordered = λ k arguments x. absurd (let e = x.stands in cc) };
+      numbered = λ k j e. absurd cc;
+      declared = λ k at c e. absurd cc;
+    }
+
+    r : Ranked s
+    r = items_ranked xs h.stated xs (beginning f xs) (λ y i. i) (nothing_declared f xs) empty s h.walks

@@ -131,7 +131,7 @@ form_stands s t p (forms.PredicateConstructor n fs gs x) a l h = others_stand l.
 form_stands s t p (forms.LemmaPrototype n ns gs c) a l h = others_stand l.is h
 form_stands s t p (forms.Lemma n ns gs c b) a l h = others_stand l.is h
 
-item_stands : {xs : List Item} (s t : Scope) (x : Item) → Contains xs x → ItemLeaves x s t → Stands xs (core s) → Stands xs (core t)
+pub item_stands : {xs : List Item} (s t : Scope) (x : Item) → Contains xs x → ItemLeaves x s t → Stands xs (core s) → Stands xs (core t)
 item_stands s t (items.Opaque p n) a l h = others_stand l.is h
 item_stands s t (items.Struct p n fs) a l h = others_stand l.is h
 item_stands s t (items.FunctionType p g c) a l h = others_stand l.is h

@@ -92,7 +92,7 @@ beside_each Q P f (x ∷ xs) [] h = absurd h
 beside_each Q P f (x ∷ xs) (t ∷ ts) h = (f x t h.0, beside_each Q P f xs ts h.1)
 
 -- ---- arguments of constructors
-chosen : {A : Type 0} (P : A → Type 0) (b : Bool) (q r : Result A Refusal) → Comes P q → Comes P r → Comes P (if b then q else r)
+pub chosen : {A : Type 0} (P : A → Type 0) (b : Bool) (q r : Result A Refusal) → Comes P q → Comes P r → Comes P (if b then q else r)
 chosen P true q r h k = h
 chosen P false q r h k = k
 
@@ -134,7 +134,7 @@ predicate_closed : (m : ℕ) (r : Result (List Sort) Refusal) → Comes (RowIsCl
 predicate_closed m (Err x) h = err_comes (IsClosed m) x
 predicate_closed m (Ok ts) h = ok_comes (IsClosed m) (h ts refl)
 
-front_comes : (P : Sort → Type 0) (Q : List Sort → Type 0) → ((t : Sort) (ts : List Sort) → P t → Q ts → Q (t ∷ ts)) → (q : Result Sort Refusal) (r : Result (List Sort) Refusal) → Comes P q → Comes Q r → Comes Q (in_front q r)
+pub front_comes : (P : Sort → Type 0) (Q : List Sort → Type 0) → ((t : Sort) (ts : List Sort) → P t → Q ts → Q (t ∷ ts)) → (q : Result Sort Refusal) (r : Result (List Sort) Refusal) → Comes P q → Comes Q r → Comes Q (in_front q r)
 front_comes P Q f (Err x) r h k = err_comes Q x
 front_comes P Q f (Ok t) (Err x) h k = err_comes Q x
 front_comes P Q f (Ok t) (Ok ts) h k = ok_comes Q (f t ts (h t refl) (k ts refl))

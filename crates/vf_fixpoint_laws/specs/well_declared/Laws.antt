@@ -1,11 +1,13 @@
 -- What an accepted unit declares is well declared, and its fixpoints stand among its items.
-use Rattle.std.specs.Prelude.{ℕ, List, Ok}
+use Rattle.std.specs.Prelude.{◌≡◌, ℕ, true, List, [], length, Ok}
 use Rattle.vf_tree.specs.Core.{Identity}
 use Rattle.vf_declared.specs.declared.declaration.GhostDeclaration.{GhostDeclaration}
 use Rattle.vf_declared.specs.declared.scope.Scope.{Scope}
 use Rattle.vf_syntax.specs.declared.item.Item.{Item}
 use Rattle.vf_syntax.specs.declared.written.Name.{Name}
 use Rattle.vf_sorting.specs.declared.scheme.Scheme.{Scheme}
+use Rattle.vf_sorts.specs.Sorts.{Sort}
+use Rattle.vf_datatypes.specs.Inhabited.{HasValue, names_below, StandInOrder}
 use Rattle.vf_resolve.specs.declared.files.Files.{Files}
 use Rattle.vf_resolve.specs.Beginning.{beginning}
 use Rattle.vf_resolve.specs.Units.{ItemsCome}
@@ -39,3 +41,7 @@ PredicatesAreDeclaredAsTold = (f : Files) (xs : List Item) (s : Scope) (paths : 
 -- so all that an accepted unit declares covers what is declared up to each of its fixpoints
 abbrev pub AcceptedUnitsAreCovered : Type 0
 AcceptedUnitsAreCovered = (f : Files) (xs : List Item) (s : Scope) (paths : List (List ℕ)) → ItemsCome xs (beginning f xs) (Ok s) → EachIsCovered s paths xs
+
+-- the datatypes of an accepted unit stand in order, so each sort over them has a value
+abbrev pub AcceptedSortsHaveValues : Type 0
+AcceptedSortsHaveValues = (f : Files) (xs : List Item) (s : Scope) → ItemsCome xs (beginning f xs) (Ok s) → StandInOrder s × ((t : Sort) → names_below (length s.datatypes) t ≡ true → HasValue s [] t)
