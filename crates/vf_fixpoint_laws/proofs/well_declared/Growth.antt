@@ -31,7 +31,7 @@ later_found p x xs r = record { at = suc r.at; item = r.item; stands = r.stands;
 found : {A : Type 0} (p : A → Bool) (xs : List A) → list_any p xs ≡ true → Found A p xs
 found p [] h = absurd cc
 found {A} p (x ∷ xs) h = elim (either (p x) (list_any p xs) h) [
-    inl e ↦ record { at = 0; item = x; stands = refl; holds = e }
+  | inl e ↦ record { at = 0; item = x; stands = refl; holds = e }
   | inr e ↦ later_found p x xs (found p xs e)
 ]
 
@@ -115,7 +115,7 @@ module _ (s t : Scope) (g : Goes s t) where
   earlier_goes zero m l k told own c h = told_goes m k told own c h
   earlier_goes (suc n) zero l k told own c h = absurd (omega (arith, l))
   earlier_goes (suc n) (suc m) l k told own c h = elim (either (all_told told) (one_builds (earlier n s) s k told) h) [
-      inl e ↦ told_goes (suc m) k told own c e
+    | inl e ↦ told_goes (suc m) k told own c e
     | inr e ↦ second_of (all_told own) (one_builds (earlier m t) t k own) (one_goes (earlier n s) (earlier m t) (earlier_goes n m (omega (arith, l))) k told own c s t g e)
   ]
 

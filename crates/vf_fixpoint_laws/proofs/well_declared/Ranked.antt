@@ -46,10 +46,10 @@ pub record Ranked (s : Scope) : Type 0 where
 
 -- what stands at an index of two lists one after the other stands in the first, or in the second
 get_parts : {A : Type 0} (xs ys : List A) (k : ℕ) (x : A) → slice_get (xs ++ ys) k ≡ Some x → (slice_get xs k ≡ Some x) ⊎ ((i : ℕ) × (k ≡ length xs + i) × (slice_get ys i ≡ Some x))
-get_parts [] ys k x e = inr (k, refl, e)
+get_parts [] ys k x e = inr (k, omega arith, e)
 get_parts (y ∷ xs) ys zero x e = inl e
 get_parts (y ∷ xs) ys (suc k) x e = elim (get_parts xs ys k x e) [
-    inl h ↦ inl h
+  | inl h ↦ inl h
   | inr h ↦ (let q = h.1 in inr (h.0, omega (arith, q), h.2))
 ]
 
@@ -81,7 +81,7 @@ module _ (s t : Scope) (more : List GhostDeclaration) (longer : t.ghosts ≡ s.g
           r.order.ordered k arguments (record { at = x.at; number = x.number; stands = stands; datatype = x.datatype; is = sym (get_below s.ghosts more x.number (r.declared k x.at x.number stands)) ∙ (sym (ap (λ gs. slice_get gs x.number) longer) ∙ x.is) });
     };
     numbered = λ k j e. elim (get_parts s.ghosts more k (ghosts.Datatype j) (sym (ap (λ gs. slice_get gs k) longer) ∙ e)) [
-        inl h ↦ (let l = r.numbered k j h in let q = ap length same in omega (arith, l, q))
+      | inl h ↦ (let l = r.numbered k j h in let q = ap length same in omega (arith, l, q))
       | inr h ↦ absurd (none h.0 j h.2)
     ];
     declared = λ k at c e.
@@ -167,7 +167,7 @@ datatype_number e = cc
 module _ (s : Scope) (r : Ranked s) where
   opened_numbered : (t : Scope) → Opened s t → NumberedBelow (length s.datatypes + 1) t
   opened_numbered t a k j e = elim (get_parts s.ghosts (ghosts.Datatype (length s.datatypes) ∷ a.built) k (ghosts.Datatype j) (sym (ap (λ gs. slice_get gs k) a.longer) ∙ e)) [
-      inl h ↦ (let l = r.numbered k j h in omega (arith, l))
+    | inl h ↦ (let l = r.numbered k j h in omega (arith, l))
     | inr h ↦ behind_it h.0 h.2
   ]
     where
@@ -198,11 +198,11 @@ numbers_at n (x ∷ xs) (suc i) c e = let h = numbers_at (n + 1) xs i c e in let
 
 drop_behind : {A : Type 0} (xs : List A) (y : A) (ys : List A) → drop (length xs + 1) (xs ++ y ∷ ys) ≡ ys
 drop_behind [] y ys = refl
-drop_behind (x ∷ xs) y ys = drop_behind xs y ys
+drop_behind (x ∷ xs) y ys = ap (λ n. drop n (x ∷ (xs ++ y ∷ ys))) (let e : suc (length xs) + 1 ≡ suc (length xs + 1) = omega arith in e) ∙ drop_behind xs y ys
 
 get_behind : {A : Type 0} (xs : List A) (y : A) (ys : List A) (i : ℕ) → slice_get (xs ++ y ∷ ys) (length xs + 1 + i) ≡ slice_get ys i
-get_behind [] y ys i = refl
-get_behind (x ∷ xs) y ys i = get_behind xs y ys i
+get_behind [] y ys i = ap (slice_get (y ∷ ys)) (let e : 0 + 1 + i ≡ suc i = omega arith in e)
+get_behind (x ∷ xs) y ys i = ap (slice_get (x ∷ (xs ++ y ∷ ys))) (let e : suc (length xs) + 1 + i ≡ suc (length xs + 1 + i) = omega arith in e) ∙ get_behind xs y ys i
 
 get_last : {A : Type 0} (xs : List A) (x : A) → slice_get (xs ++ x ∷ []) (length xs) ≡ Some x
 get_last [] x = refl
@@ -219,16 +219,16 @@ compared zero zero = inr (inl refl)
 compared zero (suc n) = inl (omega arith)
 compared (suc k) zero = inr (inr (omega arith))
 compared (suc k) (suc n) = elim (compared k n) [
-    inl l ↦ inl (omega (arith, l))
+  | inl l ↦ inl (omega (arith, l))
   | inr h ↦ elim h [ inl q ↦ inr (inl (omega (arith, q))) | inr l ↦ inr (inr (omega (arith, l))) ]
 ]
 
 module _ (s : Scope) (r : Ranked s) (o : Own) (first_number : ℕ) (t : Scope) (q : o.number ≡ length s.datatypes) (f : first_number ≡ length s.ghosts + 1) (a : Opened s t) where
-  whole : Scope
-  abbrev whole = with_datatype t o first_number
+  abbrev whole : Scope
+  whole = with_datatype t o first_number
 
-  datatype : Datatype
-  abbrev datatype = record { parameters = length o.parameters; constructors = numbers_from first_number (drop first_number t.ghosts) }
+  abbrev datatype : Datatype
+  datatype = record { parameters = length o.parameters; constructors = numbers_from first_number (drop first_number t.ghosts) }
 
   counted : length whole.datatypes ≡ length s.datatypes + 1
   counted = length-append t.datatypes (datatype ∷ []) ∙ ap (λ ds. length ds + 1) a.same
@@ -267,21 +267,21 @@ module _ (s : Scope) (r : Ranked s) (o : Own) (first_number : ℕ) (t : Scope) (
 
   in_order : (k : ℕ) (arguments : List Sort) → IsConstructorOf whole k arguments → list_all (names_below (k + 1)) arguments ≡ true
   in_order k arguments x = elim (compared k (length s.datatypes)) [
-      inl l ↦ (let stands = constructors_at k x.at x.number (datatype_of s k) (earlier_datatype k l) x.stands in
-          r.order.ordered k arguments (record { at = x.at; number = x.number; stands = stands; datatype = x.datatype; is = sym (get_below s.ghosts (ghosts.Datatype (length s.datatypes) ∷ a.built) x.number (r.declared k x.at x.number stands)) ∙ (sym (ap (λ gs. slice_get gs x.number) a.longer) ∙ x.is) }))
+    | inl l ↦ (let stands = constructors_at k x.at x.number (datatype_of s k) (earlier_datatype k l) x.stands in
+        r.order.ordered k arguments (record { at = x.at; number = x.number; stands = stands; datatype = x.datatype; is = sym (get_below s.ghosts (ghosts.Datatype (length s.datatypes) ∷ a.built) x.number (r.declared k x.at x.number stands)) ∙ (sym (ap (λ gs. slice_get gs x.number) a.longer) ∙ x.is) }))
     | inr h ↦ elim h [
-        inl e ↦ (let c = new_constructor x.at x.number (constructors_at k x.at x.number (Some datatype) (ap (datatype_of whole) e ∙ last_datatype) x.stands) in
-            subst (λ n. AllBelow (n + 1) arguments) (sym e) (arguments_of_them (length s.datatypes + 1) a.built a.each x.at x.datatype arguments
-            (sym (get_behind s.ghosts (ghosts.Datatype (length s.datatypes)) a.built x.at) ∙ (ap (slice_get (s.ghosts ++ ghosts.Datatype (length s.datatypes) ∷ a.built)) (sym c.0) ∙ (sym (ap (λ gs. slice_get gs x.number) a.longer) ∙ x.is)))))
+      | inl e ↦ (let c = new_constructor x.at x.number (constructors_at k x.at x.number (Some datatype) (ap (datatype_of whole) e ∙ last_datatype) x.stands) in
+          subst (λ n. AllBelow (n + 1) arguments) (sym e) (arguments_of_them (length s.datatypes + 1) a.built a.each x.at x.datatype arguments
+          (sym (get_behind s.ghosts (ghosts.Datatype (length s.datatypes)) a.built x.at) ∙ (ap (slice_get (s.ghosts ++ ghosts.Datatype (length s.datatypes) ∷ a.built)) (sym c.0) ∙ (sym (ap (λ gs. slice_get gs x.number) a.longer) ∙ x.is)))))
       | inr l ↦ absurd (none_some (constructors_at k x.at x.number None (no_datatype_past k l) x.stands))
     ]
   ]
 
   all_declared : (k at c : ℕ) → slice_get (constructors_in (datatype_of whole k)) at ≡ Some c → c < length t.ghosts
   all_declared k at c e = elim (compared k (length s.datatypes)) [
-      inl l ↦ (let b = r.declared k at c (constructors_at k at c (datatype_of s k) (earlier_datatype k l) e) in let m = long in omega (arith, b, m))
+    | inl l ↦ (let b = r.declared k at c (constructors_at k at c (datatype_of s k) (earlier_datatype k l) e) in let m = long in omega (arith, b, m))
     | inr h ↦ elim h [
-        inl i ↦ (let b = new_constructor at c (constructors_at k at c (Some datatype) (ap (datatype_of whole) i ∙ last_datatype) e) in let u = b.0 in let v = b.1 in let m = long in omega (arith, u, v, m))
+      | inl i ↦ (let b = new_constructor at c (constructors_at k at c (Some datatype) (ap (datatype_of whole) i ∙ last_datatype) e) in let u = b.0 in let v = b.1 in let m = long in omega (arith, u, v, m))
       | inr l ↦ absurd (none_some (constructors_at k at c None (no_datatype_past k l) e))
     ]
   ]
@@ -290,9 +290,9 @@ module _ (s : Scope) (r : Ranked s) (o : Own) (first_number : ℕ) (t : Scope) (
   ranked_whole i = record {
     order = record {
       inhabited = λ k l. elim (compared k (length s.datatypes)) [
-          inl b ↦ inhabited_goes s whole goes_whole k (r.order.inhabited k b)
+        | inl b ↦ inhabited_goes s whole goes_whole k (r.order.inhabited k b)
         | inr h ↦ elim h [
-            inl e ↦ ap (is_inhabited whole) (e ∙ sym q) ∙ i
+          | inl e ↦ ap (is_inhabited whole) (e ∙ sym q) ∙ i
           | inr b ↦ absurd (let c = counted in omega (arith, b, c, l))
         ]
       ];
