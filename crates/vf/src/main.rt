@@ -57,7 +57,7 @@ fn status_of_words(error: &io::Error) -> Status
 fn cause_of(status: Status) -> Option<&'static str> {
     match status {
         Status::Done | Status::Refused | Status::LinkRefused | Status::RunFault => None,
-        Status::Usage => Some("usage: vf run SCHEDULE FILE.c"),
+        Status::Usage => Some("usage: vf run SCHEDULE FILE.c, or vf try SCHEDULE FILE.c.."),
         Status::ReadFault => Some("a file could not be read"),
         Status::WriteFault => Some("standard output could not be written"),
         Status::Memory => Some("there is no memory left"),

@@ -9,10 +9,12 @@
 
 mod answer;
 mod lines;
+mod linking;
 mod load;
 mod reading;
 mod run;
 mod status;
+mod trying;
 mod verdict;
 mod words;
 

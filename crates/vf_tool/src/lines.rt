@@ -163,3 +163,28 @@ pub fn push_output(text: &mut Text, output: &[u8]) -> Result<(), Memory>
     }
     Ok(())
 }
+
+/// Prints that a file was read.
+pub fn push_read(text: &mut Text, path: &str) -> Result<(), Memory> {
+    text.push_bytes(path.as_bytes())?;
+    text.push_bytes(b": read\n")?;
+    Ok(())
+}
+
+/// Prints why files don't link.
+pub fn push_unlinked(
+    alloc: Global,
+    text: &mut Text,
+    number: u32,
+    name: &str,
+    shown: &[u8],
+) -> Result<(), Memory> {
+    text.push_bytes(b"link: rule ")?;
+    push_number(alloc, text, number)?;
+    text.push_bytes(b" ")?;
+    text.push_bytes(name.as_bytes())?;
+    text.push_bytes(b" ")?;
+    text.push_bytes(shown)?;
+    text.push_bytes(b"\n")?;
+    Ok(())
+}

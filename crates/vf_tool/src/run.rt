@@ -13,7 +13,8 @@ ghost use Rattle.vf_tool.specs.Words.{IsRun};
 
 use crate::answer::run_answer;
 use crate::status::Status;
-use crate::words::run_words_of;
+use crate::trying::try_files;
+use crate::words::{TryWords, run_words_of, try_words_of};
 use std::alloc::Global;
 use vf_asking::Journal;
 use vf_base::{Files, Sink, SinkFault, write_all};
@@ -62,6 +63,9 @@ pub fn run_words<F: Files, S: Sink>(
         → (Rose (F.failures files.old) (F.failures files.new) → ⊥) → (Rose (F.absences files.old) (F.absences files.new) → ⊥) → (Rose (S.failures out.old) (S.failures out.new) → ⊥)
         → (events : List Event) → HasSchedule m schedule events → Decides m file result }
 {
+    if let Some(asked) = try_words_of(words) {
+        return answer_try(alloc, asked, files, out);
+    }
     let run = match run_words_of(words) {
         Some(run) => run,
         None => return Status::Usage,
@@ -79,5 +83,23 @@ pub fn run_words<F: Files, S: Sink>(
         Status::Done
     } else {
         Status::Refused
+    }
+}
+
+/// Does what the command `try` asks for.
+fn answer_try<F: Files, S: Sink>(
+    alloc: Global,
+    asked: TryWords<'_>,
+    files: &mut F,
+    out: &mut S,
+) -> Status {
+    let tried = match try_files(alloc, asked.schedule, asked.words, files) {
+        Ok(tried) => tried,
+        Err(stop) => return stop.status(),
+    };
+    match write_all(out, tried.text.as_bytes()) {
+        Ok(()) => tried.status,
+        Err(SinkFault::Failed) => Status::WriteFault,
+        Err(SinkFault::Memory) => Status::Memory,
     }
 }

@@ -82,3 +82,32 @@ pub fn run_words_of(words: &[String]) -> Option<RunWords<'_>>
         _ => None,
     }
 }
+
+/// The words of the command `try`: read, link and run source files under a schedule.
+#[derive(Clone, Copy, Debug)]
+pub struct TryWords<'a> {
+    pub schedule: &'a str,
+    /// Mean the paths of the source files.
+    pub words: &'a [String],
+}
+
+/// The schedule and the files of a try, where the words ask for one.
+pub fn try_words_of(words: &[String]) -> Option<TryWords<'_>> {
+    match words {
+        [name, schedule, first, rest @ ..] => {
+            if name.as_str() != "try" || !is_source_path(first.as_str()) {
+                return None;
+            }
+            for word in rest {
+                if !is_source_path(word.as_str()) {
+                    return None;
+                }
+            }
+            Some(TryWords {
+                schedule: schedule.as_str(),
+                words: &words[2..],
+            })
+        }
+        _ => None,
+    }
+}

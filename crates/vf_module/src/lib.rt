@@ -1,0 +1,14 @@
+//! A file by itself: what its plain unit is, or its first refusal.
+//!
+//! [`read_unit`] reads a file with what it includes, cuts it into tokens, parses its unit, goes through the phases of
+//! names, types and sorts, of fixpoints and of the order of operands, and makes steps of what is left without annotations.
+//! It asks nothing of a prover.
+//!
+//! `read_unit`: what is read is the plain unit of the file, by what the files tell, or the refusal in the first phase that
+//! refuses it; the other answers have their causes. Exact, as far as the parser's refusals of depth are.
+#![tactic(auto)]
+
+mod items;
+mod reading;
+
+pub use reading::{Reading, UnitFault, read_unit};
