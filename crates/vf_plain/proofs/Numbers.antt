@@ -1,13 +1,14 @@
 -- Identities by numbers, of which those of the last names come first.
-use Rattle.std.proofs.Common.{◌≡◌, ℕ, zero, suc, ◌+◌, ◌-◌, ◌<◌, ◌≤◌, cond, Bool, true, false, List, [], ◌∷◌, ◌++◌, length, drop, slice_get, slice_set, Option, Some, None, Result, Ok, Err, OnOk, IfOk, refl, sym, ap, ◌∙◌, arith}
+use Rattle.std.proofs.Common.{◌≡◌, ℕ, zero, suc, ◌+◌, ◌-◌, ◌<◌, ◌≤◌, cond, List, [], ◌∷◌, ◌++◌, length, drop, slice_get, slice_set, Some, None, option_map, option_to_list, refl, sym, ap, ◌∙◌, append_assoc, arith}
 use Rattle.std.proofs.lemmas.Bool.{eq-eqb, ne_eqb}
-use Rattle.vf_base.specs.declared.memory.Memory.{Memory}
-use Rattle.vf_tree.specs.Core.{Identity}
+use Rattle.vf_tree.specs.Core.{Identity, StructTree}
+use Rattle.vf_steps.specs.Core.{Identities}
 use Rattle.vf_declared.specs.declared.declaration.Declaration.{Declaration}
 use Rattle.vf_declared.specs.declared.declaration.Structure.{Structure}
 use Rattle.vf_terms.specs.Named.{identity_of}
 use Rattle.vf_plain.specs.declared.names.Named.{Named}
 use Rattle.vf_plain.specs.declared.names.Named.TheVariants as kinds
+use Rattle.vf_plain.specs.Units.{struct_tree, structs_from}
 use Rattle.vf_plain.specs.Identities.{identities_behind, identity_with, is_number, named_number, tag_identities, values_from}
 
 -- ---- lists
@@ -157,12 +158,12 @@ drop_none [] = refl
 drop_none (x ∷ xs) = refl
 
 -- one name more
-pub more : (k : Named) (paths xs : List (List ℕ)) (ds : List Declaration) (count done : ℕ) (old new : List Identity) → done < length xs
-    → ((c : ℕ) → old ≡ identities_behind k paths (drop (length xs - 1 - done + 1) xs) (drop (length xs - 1 - done + 1) ds) c → new ≡ identities_behind k paths (drop (length xs - 1 - done) xs) (drop (length xs - 1 - done) ds) c)
+pub more : (k : Named) (paths xs : List (List ℕ)) (ds : List Declaration) (size count done : ℕ) (old new : List Identity) → size ≡ length xs → done < size
+    → ((c : ℕ) → old ≡ identities_behind k paths (drop (size - 1 - done + 1) xs) (drop (size - 1 - done + 1) ds) c → new ≡ identities_behind k paths (drop (size - 1 - done) xs) (drop (size - 1 - done) ds) c)
     → old ≡ identities_behind k paths (drop (length xs - done) xs) (drop (length xs - done) ds) count → new ≡ identities_behind k paths (drop (length xs - (done + 1)) xs) (drop (length xs - (done + 1)) ds) count
-more k paths xs ds count done old new less step before =
-    let behind : length xs - done ≡ length xs - 1 - done + 1 = omega (arith, less) in
-    let here : length xs - 1 - done ≡ length xs - (done + 1) = omega (arith, less) in
+more k paths xs ds size count done old new many less step before =
+    let behind : length xs - done ≡ size - 1 - done + 1 = omega (arith, many, less) in
+    let here : size - 1 - done ≡ length xs - (done + 1) = omega (arith, many, less) in
     step count (before ∙ ap (λ n. identities_behind k paths (drop n xs) (drop n ds) count) behind) ∙ ap (λ n. identities_behind k paths (drop n xs) (drop n ds) count) here
 
 -- behind the loop
@@ -201,3 +202,14 @@ tag_none paths xs ss at old whole none before = sym (nothing_more old) ∙ sym (
 -- no struct is left
 pub tag_end : (paths xs : List (List ℕ)) (ss : List Structure) (at : ℕ) (old whole : List Identity) → length ss ≤ at → old ++ tag_identities paths (drop at xs) (drop at ss) ≡ whole → old ≡ whole
 tag_end paths xs ss at old whole all before = sym (nothing_more old) ∙ sym (ap (λ l. old ++ l) (no_structs paths (drop at xs))) ∙ sym (ap (λ l. old ++ tag_identities paths (drop at xs) l) (left_end ss at all)) ∙ before
+
+-- no struct stands at an index
+pub tag_nothing : (paths xs : List (List ℕ)) (ss : List Structure) (at : ℕ) (old whole : List Identity) → None ≡ slice_get ss at → old ++ tag_identities paths (drop at xs) (drop at ss) ≡ whole → old ≡ whole
+tag_nothing paths xs ss at old whole none before = sym (nothing_more old) ∙ sym (ap (λ l. old ++ l) (no_structs paths (drop at xs))) ∙ sym (ap (λ l. old ++ tag_identities paths (drop at xs) l) (left_none ss at (sym none))) ∙ before
+
+-- one struct more, with its fields if it has any
+pub structs_more : (d : Identities) (ss : List Structure) (i : ℕ) (s : Structure) (made now whole : List StructTree) → slice_get ss i ≡ Some s → now ≡ made ++ option_to_list (option_map (struct_tree d i) s.fields) → made ++ structs_from d i (drop i ss) ≡ whole → now ++ structs_from d (i + 1) (drop (i + 1) ss) ≡ whole
+structs_more d ss i s made now whole h step so =
+    let one = option_to_list (option_map (struct_tree d i) s.fields) in
+    let rest = structs_from d (i + 1) (drop (i + 1) ss) in
+    ap (λ xs. xs ++ rest) step ∙ append_assoc made one rest ∙ ap (λ xs. made ++ structs_from d i xs) (sym (left_at ss i s h)) ∙ so

@@ -114,7 +114,8 @@ fn tag_identities(
 
 /// The names with as many numbers as a count says, from a first one on.
 fn names_from(alloc: Global, first: usize, count: usize) -> Result<Sequence<Name>, Memory>
-    ensures { IfOk result (λ ns. (before texts behind : List Identity) → length before ≡ first → length texts ≡ count → identities (before ++ texts ++ behind) ns ≡ texts) }
+    ensures between { IfOk result (λ ns. (before texts behind : List Identity) → length before ≡ first → length texts ≡ count → identities (before ++ texts ++ behind) ns ≡ texts) }
+    ensures last { IfOk result (λ ns. (before texts : List Identity) → length before ≡ first → length texts ≡ count → identities (before ++ texts) ns ≡ texts) }
 {
     let mut names = Sequence::new(alloc);
     for at in 0..count {
