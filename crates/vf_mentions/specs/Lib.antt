@@ -1,0 +1,4 @@
+pub mod Mentioned
+pub mod RealText
+pub mod GhostText
+pub mod Bodies
