@@ -1,6 +1,10 @@
 -- Loops over lists: what was found, with what the rest of the list mentions behind it, stays the same from item to item.
 use Rattle.std.proofs.Common.{◌≡◌, ℕ, ◌+◌, ◌≤◌, List, [], ◌∷◌, ◌++◌, append_assoc, length, drop, Some, None, slice_get, sym, ap, ◌∙◌}
 use Rattle.std.proofs.lemmas.List.{append-nil}
+use Rattle.vf_syntax.specs.StmtTree.{StmtTree, stmt_list}
+use Rattle.vf_mentions.specs.declared.mention.Mention.{Mention}
+use Rattle.vf_mentions.specs.Mentioned.{Locals}
+use Rattle.vf_mentions.specs.Bodies.{mentioned_in_stmt, mentioned_in_stmts, visible_behind}
 use Rattle.vf_mentions.proofs.Lists.{left_at, left_none, left_end}
 
 -- one more item
@@ -20,3 +24,9 @@ no_item f none xs i s whole h kept = nothing_left f none (drop i xs) s whole (le
 -- the list is done
 pub all_done : {A M : Type 0} (f : List A → List M) → f [] ≡ [] → (xs : List A) (i : ℕ) (s whole : List M) → length xs ≤ i → s ++ f (drop i xs) ≡ whole → s ≡ whole
 all_done f none xs i s whole h kept = nothing_left f none (drop i xs) s whole (left_end xs i h) kept
+
+-- one more statement, behind which other locals are visible
+pub stmts_more : (xs : List StmtTree) (i : ℕ) (x : StmtTree) (l m : Locals) (s t whole : List Mention) → slice_get xs i ≡ Some x → m ≡ visible_behind l x → t ≡ s ++ mentioned_in_stmt l x → s ++ mentioned_in_stmts l (stmt_list (drop i xs)) ≡ whole → t ++ mentioned_in_stmts m (stmt_list (drop (i + 1) xs)) ≡ whole
+stmts_more xs i x l m s t whole h hm ht kept =
+    let rest = λ (v : Locals). mentioned_in_stmts v (stmt_list (drop (i + 1) xs)) in
+    ap (λ a. a ++ rest m) ht ∙ ap (λ v. (s ++ mentioned_in_stmt l x) ++ rest v) hm ∙ append_assoc s (mentioned_in_stmt l x) (rest (visible_behind l x)) ∙ sym (ap (λ ys. s ++ mentioned_in_stmts l (stmt_list ys)) (left_at xs i x h)) ∙ kept
