@@ -2,3 +2,4 @@ pub mod Mentioned
 pub mod RealText
 pub mod GhostText
 pub mod Bodies
+pub mod Examples

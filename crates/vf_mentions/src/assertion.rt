@@ -12,11 +12,7 @@ use vf_syntax::assertion::{Assertion, AssertionCase, AssertionCaseList, Part, Pa
 
 /// Puts what a part of an assertion mentions behind what was found.
 #[cycle(assertion)]
-fn find_in_part(
-    locals: &Names,
-    found: &mut Sequence<Mention>,
-    part: &Part,
-) -> Result<(), Memory>
+fn find_in_part(locals: &Names, found: &mut Sequence<Mention>, part: &Part) -> Result<(), Memory>
     ensures { OnOk result (found.new ≡ found.old ++ mentioned_in_part locals.now part.now) }
 {
     match &part.node {

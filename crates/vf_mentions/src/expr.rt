@@ -66,11 +66,7 @@ fn find_in_arguments(
 
 /// The same of the operand behind an operator.
 #[cycle(expr)]
-fn find_in_link(
-    locals: &Names,
-    found: &mut Sequence<Mention>,
-    link: &Link,
-) -> Result<(), Memory>
+fn find_in_link(locals: &Names, found: &mut Sequence<Mention>, link: &Link) -> Result<(), Memory>
     ensures { OnOk result (found.new ≡ found.old ++ mentioned_in_link locals.now link.now) }
 {
     find_in_expr(locals, found, &link.operand)

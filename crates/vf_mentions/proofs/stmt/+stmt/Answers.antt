@@ -7,5 +7,5 @@ pub find_in_block-loop-at-preserved : goal.find_in_block-loop-at-preserved
 find_in_block-loop-at-preserved t c = record {
   found = stmts_more c.args.statements.now c.loop-at.at c.in-Some.statement.now c.loop-at.locals c.find_in_statement.new.locals _ _ _ (sym c.in-Some.ensures) c.in_ok-find_in_statement.ensures.locals c.in_ok-find_in_statement.ensures.found c.loop-at.invariant.found;
   begin = begin_more c.args.locals.now c.loop-at.locals c.find_in_statement.new.locals c.in-Some.statement.now c.in_ok-find_in_statement.ensures.locals c.loop-at.invariant.there c.loop-at.invariant.begin;
-  there = there_more c.args.locals.now c.loop-at.locals c.find_in_statement.new.locals c.in-Some.statement.now c.in_ok-find_in_statement.ensures.locals c.loop-at.invariant.there
+  there = there_more c.args.locals.now c.loop-at.locals c.find_in_statement.new.locals c.in-Some.statement.now c.in_ok-find_in_statement.ensures.locals c.loop-at.invariant.there;
 }

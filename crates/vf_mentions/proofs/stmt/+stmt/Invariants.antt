@@ -20,5 +20,5 @@ abbrev pub invariant-find_in_block-loop-at : goal.invariant-find_in_block-loop-a
 invariant-find_in_block-loop-at l = record {
   found : l.found ++ mentioned_in_stmts l.locals (stmt_list (drop l.at l.fn.statements)) ≡ l.initial.found ++ mentioned_in_stmts l.initial.locals (stmt_list l.fn.statements);
   begin : take (length l.initial.locals) l.locals ≡ l.initial.locals;
-  there : length l.initial.locals ≤ length l.locals
+  there : length l.initial.locals ≤ length l.locals;
 }
