@@ -16,7 +16,6 @@ use Rattle.vf_syntax.specs.GhostExprTree.{GhostExprTree, ghost_expr_list}
 use Rattle.vf_syntax.specs.GhostExprTree as ghost_tree
 use Rattle.vf_syntax.specs.StmtTree.{StmtTree, stmt_list}
 use Rattle.vf_syntax.specs.StmtTree as tree
-use Rattle.vf_mentions.specs.declared.mention.Mention.{Mention}
 use Rattle.vf_mentions.specs.declared.mention.Mention.TheVariants as mentions
 use Rattle.vf_mentions.specs.Mentioned.{Locals}
 use Rattle.vf_mentions.specs.GhostText.{mentioned_in_command}
