@@ -64,11 +64,6 @@ set_by f g s (suc k) y (suc count) here there =
     let rest : slice_set (values_from f (suc s) count) k y ≡ values_from g (suc s) count = set_by f g (suc s) k y count (ap g at ∙ here) (λ n no. there n (λ e. no (e ∙ sym at))) in
     ap (λ z. z ∷ slice_set (values_from f (suc s) count) k y) head ∙ ap (λ ys. g s ∷ ys) rest
 
--- as many values as a count says
-length-values : {A : Type 0} (f : ℕ → A) (s count : ℕ) → length (values_from f s count) ≡ count
-length-values f s zero = refl
-length-values f s (suc count) = ap suc (length-values f (suc s) count)
-
 -- one value more at the end
 values_more : {A : Type 0} (f : ℕ → A) (s count : ℕ) → values_from f s (count + 1) ≡ values_from f s count ++ f (s + count) ∷ []
 values_more f s zero = let at : s + 0 ≡ s = omega arith in ap (λ n. f n ∷ []) (sym at)
@@ -142,17 +137,6 @@ at_past s k xs ds at count n x d old name declaration is past before = sym (set_
 pub empty_more : (s : Scope) (old : List (List ℕ)) (count : ℕ) → old ≡ names_behind s kinds.Datatype [] [] count → old ++ [] ∷ [] ≡ names_behind s kinds.Datatype [] [] (count + 1)
 empty_more s old count e = ap (λ l. l ++ [] ∷ []) e ∙ sym (values_more (name_with s kinds.Datatype [] []) 0 count)
 
--- in front of the loop over names
-pub begun : (s : Scope) (k : Named) (xs : List (List ℕ)) (ds : List Declaration) (count : ℕ) (old : List (List ℕ)) → old ≡ names_behind s kinds.Datatype [] [] count → old ≡ names_behind s k (drop (length xs - 0) xs) (drop (length xs - 0) ds) count
-begun s k xs ds count old e =
-    let none : drop (length xs - 0) xs ≡ [] = left_end xs (length xs - 0) (omega arith) in
-    e ∙ same_from (name_with s kinds.Datatype [] []) (name_with s k [] (drop (length xs - 0) ds)) 0 count (λ n l. refl)
-    ∙ sym (ap (λ l. names_behind s k l (drop (length xs - 0) ds) count) none)
-
-drop_none : {A : Type 0} (xs : List A) → drop 0 xs ≡ xs
-drop_none [] = refl
-drop_none (x ∷ xs) = refl
-
 -- one name more
 pub more : (s : Scope) (k : Named) (xs : List (List ℕ)) (ds : List Declaration) (size count done : ℕ) (old new : List (List ℕ)) → size ≡ length xs → done < size
     → ((c : ℕ) → old ≡ names_behind s k (drop (size - 1 - done + 1) xs) (drop (size - 1 - done + 1) ds) c → new ≡ names_behind s k (drop (size - 1 - done) xs) (drop (size - 1 - done) ds) c)
@@ -161,9 +145,3 @@ more s k xs ds size count done old new many less step before =
     let behind : length xs - done ≡ size - 1 - done + 1 = omega (arith, many, less) in
     let here : size - 1 - done ≡ length xs - (done + 1) = omega (arith, many, less) in
     step count (before ∙ ap (λ n. names_behind s k (drop n xs) (drop n ds) count) behind) ∙ ap (λ n. names_behind s k (drop n xs) (drop n ds) count) here
-
--- behind the loop
-pub ended : (s : Scope) (k : Named) (xs : List (List ℕ)) (ds : List Declaration) (count done : ℕ) (old : List (List ℕ)) → length xs ≤ done → old ≡ names_behind s k (drop (length xs - done) xs) (drop (length xs - done) ds) count → old ≡ names_behind s k xs ds count
-ended s k xs ds count done old all e =
-    let none : length xs - done ≡ 0 = omega (arith, all) in
-    e ∙ ap (λ n. names_behind s k (drop n xs) (drop n ds) count) none ∙ ap (λ l. names_behind s k l (drop 0 ds) count) (drop_none xs) ∙ ap (λ l. names_behind s k xs l count) (drop_none ds)

@@ -161,12 +161,7 @@ fn is_other_lemma(scope: &Scope, own: &Text, mention: &Mention) -> bool
 }
 
 /// Adds the name that is mentioned, if it is that of a lemma other than this one.
-fn add_called(
-    scope: &Scope,
-    own: &Text,
-    mention: &Mention,
-    names: &mut Names,
-) -> Result<(), Memory>
+fn add_called(scope: &Scope, own: &Text, mention: &Mention, names: &mut Names) -> Result<(), Memory>
     ensures { OnOk result (names.new ≡ fold put names.old (others_called scope.now own.now (mention.now ∷ []))) }
 {
     if is_other_lemma(scope, own, mention) {

@@ -213,11 +213,7 @@ fn require_item(
 }
 
 /// The names that a unit requires, each once.
-pub fn required_names(
-    alloc: Global,
-    scope: &Scope,
-    items: &Sequence<Item>,
-) -> Result<Names, Memory>
+pub fn required_names(alloc: Global, scope: &Scope, items: &Sequence<Item>) -> Result<Names, Memory>
     ensures { IfOk result (λ names. names ≡ required.required_names scope.now items.now) }
 {
     let mut known = Names::new(alloc);

@@ -77,11 +77,7 @@ fn push_comma(out: &mut Text, at: usize) -> Result<(), Memory>
 }
 
 /// Writes the types of parameters with commas between them.
-fn push_types(
-    out: &mut Text,
-    names: &TypeNames,
-    types: &Sequence<CType>,
-) -> Result<(), Memory>
+fn push_types(out: &mut Text, names: &TypeNames, types: &Sequence<CType>) -> Result<(), Memory>
     ensures { OnOk result (out.new ≡ out.old ++ join_with_byte 44 (map (type_text names.now) types.now)) }
 {
     for at in 0..types.len() {
