@@ -137,6 +137,55 @@ fn find_in_inner(
     Ok(())
 }
 
+/// The same of a condition and a statement behind it.
+#[cycle(stmt)]
+fn find_in_if(
+    locals: &mut Names,
+    found: &mut Sequence<Mention>,
+    test: &Expr,
+    yes: &Stmt,
+) -> Result<(), Memory>
+    ensures found { OnOk result (found.new ≡ found.old ++ (mentioned_in_expr locals.old test.now ++ mentioned_in_stmt locals.old yes.now)) }
+    ensures locals { OnOk result (locals.new ≡ locals.old) }
+{
+    find_in_expr(locals, found, test)?;
+    find_in_inner(locals, found, yes)
+}
+
+/// The same of a condition and two statements behind it.
+#[cycle(stmt)]
+fn find_in_branches(
+    locals: &mut Names,
+    found: &mut Sequence<Mention>,
+    test: &Expr,
+    yes: &Stmt,
+    no: &Stmt,
+) -> Result<(), Memory>
+    ensures found { OnOk result (found.new ≡ found.old ++ (mentioned_in_expr locals.old test.now ++ (mentioned_in_stmt locals.old yes.now ++ mentioned_in_stmt locals.old no.now))) }
+    ensures locals { OnOk result (locals.new ≡ locals.old) }
+{
+    find_in_expr(locals, found, test)?;
+    find_in_inner(locals, found, yes)?;
+    find_in_inner(locals, found, no)
+}
+
+/// The same of a condition, an invariant and a statement behind them.
+#[cycle(stmt)]
+fn find_in_while(
+    locals: &mut Names,
+    found: &mut Sequence<Mention>,
+    test: &Expr,
+    invariant: &Option<Invariant>,
+    body: &Stmt,
+) -> Result<(), Memory>
+    ensures found { OnOk result (found.new ≡ found.old ++ (mentioned_in_expr locals.old test.now ++ (if_there (mentioned_in_invariant locals.old) invariant.now ++ mentioned_in_stmt locals.old body.now))) }
+    ensures locals { OnOk result (locals.new ≡ locals.old) }
+{
+    find_in_expr(locals, found, test)?;
+    find_in_invariant(locals, found, invariant)?;
+    find_in_inner(locals, found, body)
+}
+
 /// The same of a statement, behind which the local is visible that it declares.
 #[cycle(stmt)]
 fn find_in_statement(
@@ -150,19 +199,10 @@ fn find_in_statement(
     match &statement.node {
         StmtNode::Declaration(_, name, value, _) => find_in_declaration(locals, found, name, value),
         StmtNode::Simple(simple, _) => find_in_simple(locals, found, simple),
-        StmtNode::If(test, yes) => {
-            find_in_expr(locals, found, test)?;
-            find_in_inner(locals, found, yes)
-        }
-        StmtNode::IfElse(test, yes, no) => {
-            find_in_expr(locals, found, test)?;
-            find_in_inner(locals, found, yes)?;
-            find_in_inner(locals, found, no)
-        }
+        StmtNode::If(test, yes) => find_in_if(locals, found, test, yes),
+        StmtNode::IfElse(test, yes, no) => find_in_branches(locals, found, test, yes, no),
         StmtNode::While(test, invariant, body) => {
-            find_in_expr(locals, found, test)?;
-            find_in_invariant(locals, found, invariant)?;
-            find_in_inner(locals, found, body)
+            find_in_while(locals, found, test, invariant, body)
         }
         StmtNode::For(first, test, step, invariant, body) => {
             let head = ForHead {

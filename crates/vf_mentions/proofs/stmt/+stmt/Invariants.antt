@@ -9,6 +9,15 @@ decreases-find_in_statement l = 4 * stmt_nodes l.statement.now
 abbrev pub decreases-find_in_inner : goal.decreases-find_in_inner
 decreases-find_in_inner l = 4 * stmt_nodes l.statement.now + 1
 
+abbrev pub decreases-find_in_if : goal.decreases-find_in_if
+decreases-find_in_if l = 4 * stmt_nodes l.yes.now + 2
+
+abbrev pub decreases-find_in_branches : goal.decreases-find_in_branches
+decreases-find_in_branches l = 4 * (stmt_nodes l.yes.now + stmt_nodes l.no.now) + 2
+
+abbrev pub decreases-find_in_while : goal.decreases-find_in_while
+decreases-find_in_while l = 4 * stmt_nodes l.body.now + 2
+
 abbrev pub decreases-find_in_for : goal.decreases-find_in_for
 decreases-find_in_for l = 4 * stmt_nodes l.body.now + 2
 
