@@ -1,18 +1,18 @@
 -- Calls of lemmas by their names and by the places where these are mentioned first.
-use Rattle.std.proofs.Common.{◌≡◌, ◌⊎◌, ℕ, ◌+◌, ◌<◌, ◌≤◌, Bool, true, false, List, [], ◌∷◌, ◌++◌, length, map, take, drop, get_or, Option, refl, sym, ap, subst, ◌∙◌, inl, inr, arith, eqb}
+use Rattle.std.proofs.Common.{◌≡◌, ◌⊎◌, ℕ, ◌<◌, Bool, true, List, [], ◌∷◌, ◌++◌, length, map, take, drop, get_or, Option, refl, sym, ap, subst, ◌∙◌, arith}
 use Rattle.std.specs.Prelude.{Contains, ◌==◌, filter, slice_index}
 use Rattle.std.proofs.lemmas.Bool.Decides.{Decides-eqb}
-use Rattle.std.proofs.lemmas.List.{length-map, length-append, map-append, take_at, drop_at, get_or-map, get_or_append_left, get_or-append-add}
+use Rattle.std.proofs.lemmas.List.{length-map, map-append, take_at, drop_at, get_or-map}
 use Rattle.std.proofs.lemmas.List.Elements.{Contains-append_cases, Contains-append_left, Contains-append_right}
 use Rattle.vf_cycles.specs.Reaching.{Way, Reaches}
-use Rattle.vf_cycles.specs.Graphs.{Edge, AreEdges, IsMarked, MarksCycles, HasNoCycle, EachOnce, IsOrder}
+use Rattle.vf_cycles.specs.Graphs.{Edge, AreEdges, MarksCycles, HasNoCycle, EachOnce, IsOrder}
 use Rattle.vf_cycles.proofs.Ways.{carried}
 use Rattle.vf_manifest.specs.declared.line.Line.{Line}
 use Rattle.vf_link.specs.declared.statement.Topic.TheVariants.{Calls}
 use Rattle.vf_link.specs.declared.statement.Statement.{Statement}
 use Rattle.vf_link.specs.Statements.{statements, subjects, contents, place}
 use Rattle.vf_link.specs.Least.{HasNone, IsLeastOf, IsMarkedText}
-use Rattle.vf_link.specs.Linking.{CallsLemma, CallsItself, IsCallOrder}
+use Rattle.vf_link.specs.Linking.{CallsItself, IsCallOrder}
 use Rattle.vf_link.proofs.Lists.{contains_at, at_place, in_map, from_map, from_filter, in_filter, once_filter, once_map, map_parts, filter_parts}
 use Rattle.vf_link.proofs.Places.{place_within, place_is}
 use Rattle.vf_link.proofs.Stated.{nothing, subject_at, content_at}
@@ -68,12 +68,12 @@ module _ (xs : List Statement) where
 
   pub are_edges : AreEdges (length (names xs)) (callers xs) (callees xs)
   are_edges = record {
-      pairs = many_callers ∙ sym many_callees;
-      begin = λ k b. let within = subst (λ n. k < n) many_callers b in
+    pairs = many_callers ∙ sym many_callees;
+    begin = λ k b. let within = subst (λ n. k < n) many_callers b in
         subst (λ u. u < length (names xs)) (sym (caller_at k within)) (place_within (names xs) (get_or xs k nothing).subject (caller_in k within));
-      end = λ k b. let within = subst (λ n. k < n) many_callees b in
-        subst (λ u. u < length (names xs)) (sym (callee_at k within)) (place_within (names xs) (get_or xs k nothing).content (callee_in k within))
-    }
+    end = λ k b. let within = subst (λ n. k < n) many_callees b in
+        subst (λ u. u < length (names xs)) (sym (callee_at k within)) (place_within (names xs) (get_or xs k nothing).content (callee_in k within));
+  }
 
   -- an edge is a call, and a call an edge
   call_of_edge : (u w : ℕ) → Edge (callers xs) (callees xs) u w → Call xs (named xs u) (named xs w)
@@ -92,14 +92,15 @@ module _ (xs : List Statement) where
         at = c.0;
         within = subst (λ n. c.0 < n) (sym many_callers) c.1;
         begins = caller_at c.0 c.1 ∙ ap (λ (s : Statement). place (names xs) s.subject) is;
-        ends = callee_at c.0 c.1 ∙ ap (λ (s : Statement). place (names xs) s.content) is
+        ends = callee_at c.0 c.1 ∙ ap (λ (s : Statement). place (names xs) s.content) is;
       }
 
   call_in : (a b : List ℕ) → Call xs a b → Contains (names xs) a × Contains (names xs) b
   call_in a b c =
-      let is = at_place xs (record { subject = a; content = b }) nothing c in
-      (subst (λ t. Contains (names xs) t) (ap (λ (s : Statement). s.subject) is) (caller_in c.0 c.1),
-       subst (λ t. Contains (names xs) t) (ap (λ (s : Statement). s.content) is) (callee_in c.0 c.1))
+      let is = at_place xs (record { subject = a; content = b }) nothing c in (
+        subst (λ t. Contains (names xs) t) (ap (λ (s : Statement). s.subject) is) (caller_in c.0 c.1),
+        subst (λ t. Contains (names xs) t) (ap (λ (s : Statement). s.content) is) (callee_in c.0 c.1),
+      )
 
   first_in : (a b : List ℕ) (through : List (List ℕ)) → Way (Call xs) a through b → Contains (names xs) a
   first_in a b [] w = (call_in a b w).0
@@ -117,7 +118,7 @@ module _ (xs : List Statement) where
         at = place (names xs) x;
         within = within;
         marked = m.each (place (names xs) x) within (carried (Call xs) (Edge (callers xs) (callees xs)) (place (names xs)) edge_of_call x x r);
-        is = sym (place_is (names xs) x [] c)
+        is = sym (place_is (names xs) x [] c);
       }
 
   pub no_cycle : HasNone (λ x. Reaches (Call xs) x x) → HasNoCycle (callers xs) (callees xs)
@@ -144,7 +145,7 @@ module _ (xs : List Statement) where
   in_order order o t c =
       subst (λ s. Contains (ordered order) s) (place_is (names xs) t [] c)
       (in_map (λ u. get_or (names xs) u []) (filter is_first order) (place (names xs) t)
-        (in_filter is_first order (place (names xs) t) (o.each (place (names xs) t) (place_within (names xs) t c)) (place_first t c)))
+      (in_filter is_first order (place (names xs) t) (o.each (place (names xs) t) (place_within (names xs) t c)) (place_first t c)))
 
   pub is_call_order : (order : List ℕ) → IsOrder (length (names xs)) (callers xs) (callees xs) order
       → (calls : (x : List ℕ) → Contains (ordered order) x → Contains (subjects xs) x ⊎ Contains (contents xs) x)

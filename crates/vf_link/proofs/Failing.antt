@@ -1,19 +1,19 @@
 -- Which texts fail a clause, by the places where they are mentioned first.
-use Rattle.std.proofs.Common.{◌≡◌, ◌≢◌, ◌⊎◌, ℕ, ◌+◌, ◌-◌, ◌<◌, ◌≤◌, Bool, true, false, List, [], ◌∷◌, ◌++◌, length, map, get_or, Some, refl, sym, ap, subst, ◌∙◌, inl, inr, arith}
-use Rattle.std.specs.Prelude.{Contains, slice_get}
+use Rattle.std.proofs.Common.{◌≡◌, ◌≢◌, ◌⊎◌, ℕ, ◌+◌, ◌-◌, ◌<◌, ◌≤◌, Bool, true, false, List, [], ◌++◌, length, get_or, Some, refl, sym, ap, subst, ◌∙◌, inl, inr, arith}
+use Rattle.std.specs.Prelude.{Contains}
 use Rattle.std.specs.Str.{bytes_eq}
-use Rattle.std.proofs.lemmas.List.{length-map, length-append, get_or_append_left, get_or-append-add, get_or-append_right}
-use Rattle.std.proofs.lemmas.List.Elements.{Contains-append_cases, Contains-append_left, Contains-append_right}
+use Rattle.std.proofs.lemmas.List.{length-map, length-append, get_or_append_left, get_or-append-add}
+use Rattle.std.proofs.lemmas.List.Elements.{Contains-append_cases, Contains-append_right}
 use Rattle.std.proofs.lemmas.Slice.Eq.{bytes_eq-Decides}
 use Rattle.vf_manifest.specs.declared.line.Line.{Line}
 use Rattle.vf_link.specs.declared.statement.Topic.{Topic}
-use Rattle.vf_link.specs.declared.statement.Topic.TheVariants.{Bodies, Calls, Instances, Provided, Required, Structs, Uses}
+use Rattle.vf_link.specs.declared.statement.Topic.TheVariants.{Provided, Required}
 use Rattle.vf_link.specs.declared.statement.Statement.{Statement}
 use Rattle.vf_link.specs.Statements.{statements, subjects, contents, shown, place}
 use Rattle.vf_link.specs.Least.{HasNone, IsMarkedText}
-use Rattle.vf_link.specs.Linking.{StandsTwice, Differ, IsUnmet, HasOtherSignature, IsProvidedTwice, agree}
+use Rattle.vf_link.specs.Linking.{StandsTwice, Differ, IsUnmet, HasOtherSignature, agree}
 use Rattle.vf_link.specs.Marks.{Marks, IsRepeated, IsContradicted, IsNoneOf, DisagreesWith}
-use Rattle.vf_link.proofs.Lists.{get_at, got_within, got_is, contains_at, at_place, in_map}
+use Rattle.vf_link.proofs.Lists.{get_at, got_within, got_is, contains_at, at_place}
 use Rattle.vf_link.proofs.Places.{place_le, place_within, place_is, none_before}
 use Rattle.vf_link.proofs.Stated.{nothing, subject_at, content_at}
 
@@ -40,7 +40,7 @@ twice_from_mark texts marks m x k =
       second = k.at;
       order = below (place texts t) k.at (place_le texts t [] k.at refl) ne;
       one = get_at texts (place texts t) [] (place_within texts t c) ∙ ap Some (place_is texts t [] c ∙ sym k.is);
-      other = get_at texts k.at [] k.within ∙ ap Some (sym k.is)
+      other = get_at texts k.at [] k.within ∙ ap Some (sym k.is);
     }
 
 pub mark_from_twice : (texts : List (List ℕ)) (marks : List Bool) → Marks (length texts) marks (IsRepeated texts) → (x : List ℕ) → StandsTwice texts x → IsMarkedText Provided texts marks x
@@ -51,10 +51,10 @@ mark_from_twice texts marks m x h =
       at = h.second;
       within = within;
       marked = m.each h.second within (λ same.
-        let first : place texts (get_or texts h.second []) ≤ h.first = place_le texts (get_or texts h.second []) [] h.first (got_is texts h.first x [] h.one ∙ sym is) in
-        let order = h.order in
-        let none : ⊥ = omega arith in none);
-      is = sym is
+          let first : place texts (get_or texts h.second []) ≤ h.first = place_le texts (get_or texts h.second []) [] h.first (got_is texts h.first x [] h.one ∙ sym is) in
+          let order = h.order in
+          let none : ⊥ = omega arith in none);
+      is = sym is;
     }
 
 -- ---- what is said in two ways
@@ -75,7 +75,7 @@ differ_from_mark topic xs marks m x k =
       other_in = contains_at xs k.at (get_or xs k.at nothing) nothing in_k refl;
       same = first ∙ subject_at xs k.at;
       apart = λ e. m.is k.at k.within k.marked (content_at xs p ∙ e ∙ sym (content_at xs k.at));
-      shown = k.is ∙ ap (shown topic) (sym first)
+      shown = k.is ∙ ap (shown topic) (sym first);
     }
 
 pub mark_from_differ : (topic : Topic) (xs : List Statement) (marks : List Bool) → Marks (length (subjects xs)) marks (IsContradicted (subjects xs) (contents xs))
@@ -94,7 +94,7 @@ mark_from_differ topic xs marks m x h = by (bytes_eq (get_or (contents xs) p [])
           at = k;
           within = inside;
           marked = m.each k inside (λ e. apart (ap (λ y. get_or (contents xs) (place (subjects xs) y) []) (sym subject) ∙ e ∙ content));
-          is = h.shown ∙ ap (shown topic) (sym subject)
+          is = h.shown ∙ ap (shown topic) (sym subject);
         }
 
     by : (b : Bool) → bytes_eq (get_or (contents xs) (place (subjects xs) h.one.subject) []) h.one.content ≡ b → IsMarkedText topic (subjects xs) marks x
@@ -158,10 +158,10 @@ module _ (ls : List Line) where
       let behind : length (statements Provided ls) ≤ place names x = subst (λ t. length (statements Provided ls) ≤ place names t) (sym k.is) (m.is k.at k.within k.marked) in
       record {
         required = elim (Contains-append_cases (subjects (statements Provided ls)) (subjects (statements Required ls)) x (contains_at names k.at x [] k.within (sym k.is))) [
-            | inl provided ↦ absurd (not_provided x behind provided)
-            | inr required ↦ required
-          ];
-        missing = not_provided x behind
+          | inl provided ↦ absurd (not_provided x behind provided)
+          | inr required ↦ required
+        ];
+        missing = not_provided x behind;
       }
 
   pub mark_from_unmet : (marks : List Bool) → Marks (length names) marks (IsNoneOf (length (statements Provided ls)) names) → (x : List ℕ) → IsUnmet ls x → IsMarkedText Required names marks x
@@ -172,7 +172,7 @@ module _ (ls : List Line) where
         at = c.0;
         within = c.1;
         marked = m.each c.0 c.1 (subst (λ t. length (statements Provided ls) ≤ place names t) (sym is) (behind (le_or_lt (length (statements Provided ls)) (place names x))));
-        is = sym is
+        is = sym is;
       }
     where
       le_or_lt : (m n : ℕ) → (m ≤ n) ⊎ (n < m)
@@ -183,8 +183,8 @@ module _ (ls : List Line) where
       behind (inr lt) = absurd (h.missing (contains_at (subjects (statements Provided ls)) (place names x) x []
           (subst (λ n. place names x < n) (sym (length-map (statements Provided ls) (λ (s : Statement). s.subject))) lt)
           (sym (get_or_append_left (subjects (statements Provided ls)) (subjects (statements Required ls)) [] (place names x)
-              (subst (λ n. place names x < n) (sym (length-map (statements Provided ls) (λ (s : Statement). s.subject))) lt))
-            ∙ place_is names x [] (Contains-append_right (subjects (statements Provided ls)) (subjects (statements Required ls)) x h.required))))
+          (subst (λ n. place names x < n) (sym (length-map (statements Provided ls) (λ (s : Statement). s.subject))) lt))
+          ∙ place_is names x [] (Contains-append_right (subjects (statements Provided ls)) (subjects (statements Required ls)) x h.required))))
 
   -- where no identity is provided twice, a name has its place where it is provided
   provided_place : HasNone (StandsTwice (subjects (statements Provided ls))) → (x : List ℕ) (i : ℕ) → i < length (statements Provided ls) → (get_or (statements Provided ls) i nothing).subject ≡ x
@@ -209,14 +209,14 @@ module _ (ls : List Line) where
           let p_within : place names x < length (subjects (statements Provided ls)) = let l = long in omega arith in
           let i_within : i < length (subjects (statements Provided ls)) = let l = long in omega arith in
           let p_is : get_or (subjects (statements Provided ls)) (place names x) [] ≡ x =
-              sym (get_or_append_left (subjects (statements Provided ls)) (subjects (statements Required ls)) [] (place names x) p_within) ∙ place_is names x [] in_names in
+          sym (get_or_append_left (subjects (statements Provided ls)) (subjects (statements Required ls)) [] (place names x) p_within) ∙ place_is names x [] in_names in
           let i_is : get_or (subjects (statements Provided ls)) i [] ≡ x = subject_at (statements Provided ls) i ∙ is in
           absurd (once x (record {
             first = place names x;
             second = i;
             order = before;
             one = get_at (subjects (statements Provided ls)) (place names x) [] p_within ∙ ap Some p_is;
-            other = get_at (subjects (statements Provided ls)) i [] i_within ∙ ap Some i_is
+            other = get_at (subjects (statements Provided ls)) i [] i_within ∙ ap Some i_is;
           }))
       by (inr (inr behind)) = absurd (none_before names x [] i behind at_i)
 
@@ -240,9 +240,9 @@ module _ (ls : List Line) where
         of_given = name_p;
         of_wanted = name_j;
         apart =
-          ap (λ s. agree s (get_or (statements Required ls) j nothing).content) (sym (provided_signature p fails.1))
-          ∙ ap (λ s. agree (get_or signatures p []) s) (sym (required_signature j) ∙ ap (λ n. get_or signatures n []) at_j)
-          ∙ fails.2
+            ap (λ s. agree s (get_or (statements Required ls) j nothing).content) (sym (provided_signature p fails.1))
+            ∙ ap (λ s. agree (get_or signatures p []) s) (sym (required_signature j) ∙ ap (λ n. get_or signatures n []) at_j)
+            ∙ fails.2;
       }
 
   pub mark_from_other : (marks : List Bool) → Marks (length names) marks (DisagreesWith (length (statements Provided ls)) names signatures)
@@ -255,16 +255,16 @@ module _ (ls : List Line) where
       let is_j : get_or (statements Required ls) j nothing ≡ h.wanted = at_place (statements Required ls) h.wanted nothing h.wanted_in in
       let name : get_or names k [] ≡ x = required_name j ∙ ap (λ (s : Statement). s.subject) is_j ∙ h.of_wanted in
       let p_is : place names (get_or names k []) ≡ i =
-          ap (place names) name ∙ provided_place once x i h.given_in.1 (ap (λ (s : Statement). s.subject) is_i ∙ h.of_given) in
+      ap (place names) name ∙ provided_place once x i h.given_in.1 (ap (λ (s : Statement). s.subject) is_i ∙ h.of_given) in
       let within : k < length names = subst (λ n. k < n) (sym all_names) (let w = h.wanted_in.1 in omega arith) in
       let apart : agree (get_or signatures (place names (get_or names k [])) []) (get_or signatures k []) ≡ false =
-          ap (λ n. agree (get_or signatures n []) (get_or signatures k [])) p_is
-          ∙ ap (λ s. agree s (get_or signatures k [])) (provided_signature i h.given_in.1 ∙ ap (λ (s : Statement). s.content) is_i)
-          ∙ ap (λ s. agree h.given.content s) (required_signature j ∙ ap (λ (s : Statement). s.content) is_j)
-          ∙ h.apart in
+      ap (λ n. agree (get_or signatures n []) (get_or signatures k [])) p_is
+      ∙ ap (λ s. agree s (get_or signatures k [])) (provided_signature i h.given_in.1 ∙ ap (λ (s : Statement). s.content) is_i)
+      ∙ ap (λ s. agree h.given.content s) (required_signature j ∙ ap (λ (s : Statement). s.content) is_j)
+      ∙ h.apart in
       record {
         at = k;
         within = within;
         marked = m.each k within (omega arith, subst (λ n. n < length (statements Provided ls)) (sym p_is) h.given_in.1, apart);
-        is = sym name
+        is = sym name;
       }

@@ -1,5 +1,5 @@
 -- Places that are found while texts come one by one.
-use Rattle.std.proofs.Common.{◌≡◌, ◌⊎◌, ℕ, suc, ◌+◌, ◌<◌, ◌≤◌, cond, not, Bool, true, false, List, [], ◌∷◌, ◌++◌, length, map, take, drop, get_or, Bor, Option, Some, None, refl, sym, ap, subst, ◌∙◌, inl, inr, arith}
+use Rattle.std.proofs.Common.{◌≡◌, ℕ, ◌+◌, ◌<◌, cond, not, Bool, true, false, List, [], ◌∷◌, ◌++◌, length, map, take, drop, get_or, Bor, Option, Some, None, refl, sym, ap, subst, ◌∙◌, arith}
 use Rattle.std.specs.List.{position_from, position_or_len}
 use Rattle.std.specs.Str.{bytes_eq}
 use Rattle.std.specs.HashMap.{HashMap, get_by}
@@ -59,7 +59,7 @@ module _ (texts : List (List ℕ)) (at : ℕ) (within : at < length texts) where
   place_found f h =
       let p = bytes_eq (get_or texts at []) in
       let whole : position_from p 0 texts ≡ Some f =
-          subst (λ l. position_from p 0 l ≡ Some f) (take-append-drop at texts) (found_still p (take at texts) (drop at texts) 0 f h) in
+      subst (λ l. position_from p 0 l ≡ Some f) (take-append-drop at texts) (found_still p (take at texts) (drop at texts) 0 f h) in
       let is = found_place p texts 0 f whole in omega arith
 
   -- a new one has its own
@@ -67,10 +67,10 @@ module _ (texts : List (List ℕ)) (at : ℕ) (within : at < length texts) where
   place_new h =
       let p = bytes_eq (get_or texts at []) in
       let here : position_from p 0 (take at texts ++ get_or texts at [] ∷ []) ≡ Some (0 + length (take at texts)) =
-          missed_next p (take at texts) (get_or texts at []) 0 h ∙ ap (λ b. cond b (Some (0 + length (take at texts))) None) itself in
+      missed_next p (take at texts) (get_or texts at []) 0 h ∙ ap (λ b. cond b (Some (0 + length (take at texts))) None) itself in
       let whole : position_from p 0 texts ≡ Some (0 + length (take at texts)) =
-          subst (λ l. position_from p 0 l ≡ Some (0 + length (take at texts))) (sym parts)
-          (found_still p (take at texts ++ get_or texts at [] ∷ []) (drop (at + 1) texts) 0 (0 + length (take at texts)) here) in
+      subst (λ l. position_from p 0 l ≡ Some (0 + length (take at texts))) (sym parts)
+      (found_still p (take at texts ++ get_or texts at [] ∷ []) (drop (at + 1) texts) 0 (0 + length (take at texts)) here) in
       let is = found_place p texts 0 (0 + length (take at texts)) whole in
       let long = length-take-le at texts (omega arith) in
       omega arith

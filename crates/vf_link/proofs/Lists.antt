@@ -1,5 +1,5 @@
 -- Elements of lists, and lists that were made of others.
-use Rattle.std.proofs.Common.{◌≡◌, ◌⊎◌, ℕ, zero, suc, ◌+◌, ◌<◌, ◌≤◌, Bool, true, false, cond, List, [], ◌∷◌, ◌++◌, length, map, take, get_or, Vec, Global, Option, Some, None, refl, sym, ap, subst, ◌∙◌, inl, inr, arith}
+use Rattle.std.proofs.Common.{◌≡◌, ℕ, zero, suc, ◌+◌, ◌<◌, Bool, true, false, cond, List, [], ◌∷◌, ◌++◌, length, map, take, drop, get_or, Vec, Global, Some, refl, sym, ap, subst, ◌∙◌, inl, inr, arith}
 use Rattle.std.specs.Prelude.{Contains, slice_get, filter}
 use Rattle.std.proofs.lemmas.List.{append-nil, map_push}
 use Rattle.std.proofs.lemmas.List.Elements.{filter_more}
@@ -38,25 +38,25 @@ at_place (y ∷ ys) x d (suc k, within, is) = at_place ys x d (k, omega arith, i
 pub in_map : {A B : Type 0} (f : A → B) (xs : List A) (x : A) → Contains xs x → Contains (map f xs) (f x)
 in_map f [] x c = absurd (nowhere x c)
 in_map f (y ∷ ys) x c = elim (front_or_behind y x ys c) [
-    | inl same ↦ subst (λ z. Contains (map f (y ∷ ys)) (f z)) same (here (f y) (map f ys))
-    | inr rest ↦ there (f y) (f x) (map f ys) (in_map f ys x rest)
-  ]
+  | inl same ↦ subst (λ z. Contains (map f (y ∷ ys)) (f z)) same (here (f y) (map f ys))
+  | inr rest ↦ there (f y) (f x) (map f ys) (in_map f ys x rest)
+]
 
 pub from_map : {A B : Type 0} (f : A → B) (xs : List A) (y : B) → Contains (map f xs) y → (x : A) × Contains xs x × (f x ≡ y)
 from_map f [] y c = absurd (nowhere y c)
 from_map f (x ∷ xs) y c = elim (front_or_behind (f x) y (map f xs) c) [
-    | inl same ↦ (x, here x xs, same)
-    | inr rest ↦ let r = from_map f xs y rest in (r.0, there x r.0 xs r.1, r.2)
-  ]
+  | inl same ↦ (x, here x xs, same)
+  | inr rest ↦ let r = from_map f xs y rest in (r.0, there x r.0 xs r.1, r.2)
+]
 
 -- ---- what a test keeps
 
 kept_in : {A : Type 0} (p : A → Bool) (x y : A) (xs : List A) (b : Bool) → p y ≡ b → Contains (cond b (y ∷ filter p xs) (filter p xs)) x
     → (Contains (filter p xs) x → Contains xs x × (p x ≡ true)) → Contains (y ∷ xs) x × (p x ≡ true)
 kept_in p x y xs true e c more = elim (front_or_behind y x (filter p xs) c) [
-    | inl same ↦ (subst (λ z. Contains (y ∷ xs) z) same (here y xs), ap p (sym same) ∙ e)
-    | inr rest ↦ let m = more rest in (there y x xs m.0, m.1)
-  ]
+  | inl same ↦ (subst (λ z. Contains (y ∷ xs) z) same (here y xs), ap p (sym same) ∙ e)
+  | inr rest ↦ let m = more rest in (there y x xs m.0, m.1)
+]
 kept_in p x y xs false e c more = let m = more c in (there y x xs m.0, m.1)
 
 pub from_filter : {A : Type 0} (p : A → Bool) (xs : List A) (x : A) → Contains (filter p xs) x → Contains xs x × (p x ≡ true)
@@ -74,9 +74,9 @@ keeps_rest y x zs false c = c
 pub in_filter : {A : Type 0} (p : A → Bool) (xs : List A) (x : A) → Contains xs x → p x ≡ true → Contains (filter p xs) x
 in_filter p [] x c h = absurd (nowhere x c)
 in_filter p (y ∷ ys) x c h = elim (front_or_behind y x ys c) [
-    | inl same ↦ subst (λ z. Contains (filter p (y ∷ ys)) z) same (keeps_front p y (filter p ys) (p y) (ap p same ∙ h))
-    | inr rest ↦ keeps_rest y x (filter p ys) (p y) (in_filter p ys x rest h)
-  ]
+  | inl same ↦ subst (λ z. Contains (filter p (y ∷ ys)) z) same (keeps_front p y (filter p ys) (p y) (ap p same ∙ h))
+  | inr rest ↦ keeps_rest y x (filter p ys) (p y) (in_filter p ys x rest h)
+]
 
 -- one more that is kept, and one more that is not
 pub kept_more : {A B : Type 0} (f : A → B) (p : A → Bool) (xs : List A) (i : ℕ) (d : A) → i < length xs → p (get_or xs i d) ≡ true
@@ -99,15 +99,13 @@ once_filter p (x ∷ xs) h = once_kept p x xs (filter p xs) (p x) h.0 (λ y c. (
 
 pub once_map : {A B : Type 0} (f : A → B) (xs : List A) → ((x y : A) → Contains xs x → Contains xs y → f x ≡ f y → x ≡ y) → EachOnce xs → EachOnce (map f xs)
 once_map f [] one h = tt
-once_map f (x ∷ xs) one h =
-    (λ c. let r = from_map f xs (f x) c in
+once_map f (x ∷ xs) one h = (
+  λ c. let r = from_map f xs (f x) c in
       h.0 (subst (λ z. Contains xs z) (one r.0 x (there x r.0 xs r.1) (here x xs) r.2) r.1),
-     once_map f xs (λ y z cy cz e. one y z (there x y xs cy) (there x z xs cz) e) h.1)
+  once_map f xs (λ y z cy cz e. one y z (there x y xs cy) (there x z xs cz) e) h.1,
+)
 
 -- ---- where a list was made of another, so were its parts
-
-both_parts : {A : Type 0} (x y : A) (xs ys : List A) → x ≡ y → xs ≡ ys → x ∷ xs ≡ y ∷ ys
-both_parts x y xs ys front rest = ap (λ z. z ∷ xs) front ∙ ap (λ l. y ∷ l) rest
 
 pub map_parts : {A B : Type 0} (f : A → B) (xs : List A) (s : List B) (y : B) (t : List B) → map f xs ≡ s ++ y ∷ t
     → (s' : List A) × (x : A) × (t' : List A) × (xs ≡ s' ++ x ∷ t') × (s ≡ map f s') × (y ≡ f x)
@@ -115,9 +113,9 @@ map_parts f [] [] y t e = absurd cc
 map_parts f [] (z ∷ s) y t e = absurd cc
 map_parts f (x ∷ xs) [] y t e = ([], x, xs, refl, refl, cc)
 map_parts f (x ∷ xs) (z ∷ s) y t e =
-    let r = map_parts f xs s y t cc in
+    let r = map_parts f xs s y t (ap (drop 1) e) in
     let front : z ≡ f x = cc in
-    (x ∷ r.0, r.1, r.2, ap (λ l. x ∷ l) r.3, both_parts z (f x) s (map f r.0) front r.4, r.5)
+    (x ∷ r.0, r.1, r.2, ap (λ l. x ∷ l) r.3, ap (λ w. w ∷ s) front ∙ ap (λ l. f x ∷ l) r.4, r.5)
 
 filter_step : {A : Type 0} (p : A → Bool) (x : A) (xs s : List A) (y : A) (t : List A) (b : Bool) → p x ≡ b → cond b (x ∷ filter p xs) (filter p xs) ≡ s ++ y ∷ t
     → ((s₁ : List A) → filter p xs ≡ s₁ ++ y ∷ t → (s' : List A) × (t' : List A) × (xs ≡ s' ++ y ∷ t') × (s₁ ≡ filter p s'))

@@ -1,6 +1,6 @@
 -- Mains put together, line by line and manifest by manifest.
-use Rattle.std.proofs.Common.{◌≡◌, ℕ, ◌+◌, ◌<◌, true, false, cond, List, [], ◌∷◌, ◌++◌, length, take, get_or, Some, sym, ap, subst, ◌∙◌, arith}
-use Rattle.std.specs.Prelude.{count_by, slice_get}
+use Rattle.std.proofs.Common.{◌≡◌, ℕ, ◌+◌, ◌<◌, true, false, cond, List, [], length, take, get_or, Some, sym, ap, ◌∙◌, arith}
+use Rattle.std.specs.Prelude.{count_by}
 use Rattle.std.proofs.lemmas.List.{take_more}
 use Rattle.std.proofs.lemmas.List.Sums.{count_by_more_yes, count_by_more_no, sum_by-append}
 use Rattle.vf_manifest.specs.declared.line.Line.{Line}
@@ -25,14 +25,14 @@ no_main_more ls i base old new l within is main h more =
 pub main_here : (ms : List (List Line)) (at : ℕ) (ls : List Line) (i : ℕ) (l : Line) (name : Identity) (identity : List ℕ) → at < length ms → ls ≡ get_or ms at ls
     → i < length ls → l ≡ get_or ls i l → ProvidesMain l name → identity ≡ identity_text name → IsMain ms at identity
 main_here ms at ls i l name identity within is inside at_line main e = record {
-    manifest = ls;
-    there = get_at ms at ls within ∙ ap Some (sym is);
-    line = l;
-    inside = contains_at ls i l l inside (sym at_line);
-    name = name;
-    main = main;
-    is = e
-  }
+  manifest = ls;
+  there = get_at ms at ls within ∙ ap Some (sym is);
+  line = l;
+  inside = contains_at ls i l l inside (sym at_line);
+  name = name;
+  main = main;
+  is = e;
+}
 
 pub mains_more : (ms : List (List Line)) (at old new : ℕ) → at < length ms → old ≡ mains (all_lines (take at ms)) → new ≡ old + count_by provides_main (get_or ms at []) → new ≡ mains (all_lines (take (at + 1) ms))
 mains_more ms at old new within h more =

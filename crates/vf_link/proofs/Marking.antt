@@ -1,5 +1,5 @@
 -- Marks put one behind the other, and the least of what is marked.
-use Rattle.std.proofs.Common.{◌≡◌, ◌≢◌, ◌⊎◌, ℕ, ◌+◌, ◌<◌, ◌≤◌, Bool, true, false, not, cond, List, [], ◌∷◌, ◌++◌, length, map, take, get_or, Option, Some, None, refl, sym, ap, subst, ◌∙◌, inl, inr, arith}
+use Rattle.std.proofs.Common.{◌≡◌, ◌≢◌, ◌⊎◌, ℕ, ◌+◌, ◌<◌, ◌≤◌, Bool, true, false, not, cond, List, [], ◌∷◌, ◌++◌, length, map, take, get_or, Option, Some, refl, sym, ap, subst, ◌∙◌, inl, inr, arith}
 use Rattle.std.specs.Prelude.{◌==◌, nat_le}
 use Rattle.std.specs.declared.cmp.Ordering.{Ordering}
 use Rattle.std.specs.declared.cmp.Ordering.TheVariants.{Less, Equal, Greater}
@@ -9,7 +9,7 @@ use Rattle.std.proofs.lemmas.Bool.Decides.{Decides-eqb, nat_tests}
 use Rattle.std.proofs.lemmas.List.{length_push, length-map, length-take-le, get_or_append_left, get_or_push, get_or_read, get_or-map, get_or-take}
 use Rattle.vf_link.specs.declared.statement.Topic.{Topic}
 use Rattle.vf_link.specs.Statements.{place, shown}
-use Rattle.vf_link.specs.Least.{IsLeast, IsLeastOf, HasNone, IsMarkedText, lesser}
+use Rattle.vf_link.specs.Least.{IsLeastOf, IsMarkedText, lesser}
 use Rattle.vf_link.specs.Linking.{agree}
 use Rattle.vf_link.specs.Marks.{Marks, IsRepeated, IsContradicted, IsNoneOf, DisagreesWith}
 use Rattle.vf_link.proofs.Lists.{contains_at}
@@ -21,16 +21,16 @@ below_or_at k n h = grind arith
 
 pub marks_push : (n : ℕ) (marks : List Bool) (b : Bool) (P : ℕ → Type 0) → Marks n marks P → (b ≡ true → P n) → (P n → b ≡ true) → Marks (n + 1) (marks ++ b ∷ []) P
 marks_push n marks b P h to back = record {
-    nodes = length_push marks b ∙ ap (λ k. k + 1) h.nodes;
-    is = λ k w m. elim (below_or_at k n w) [
-        | inl below ↦ h.is k below (sym (get_or_append_left marks (b ∷ []) false k (subst (λ j. k < j) (sym h.nodes) below)) ∙ m)
-        | inr at ↦ subst P (sym at) (to (sym (get_or_push marks b false k (h.nodes ∙ sym at)) ∙ m))
-      ];
-    each = λ k w p. elim (below_or_at k n w) [
-        | inl below ↦ get_or_append_left marks (b ∷ []) false k (subst (λ j. k < j) (sym h.nodes) below) ∙ h.each k below p
-        | inr at ↦ get_or_push marks b false k (h.nodes ∙ sym at) ∙ back (subst P at p)
-      ]
-  }
+  nodes = length_push marks b ∙ ap (λ k. k + 1) h.nodes;
+  is = λ k w m. elim (below_or_at k n w) [
+    | inl below ↦ h.is k below (sym (get_or_append_left marks (b ∷ []) false k (subst (λ j. k < j) (sym h.nodes) below)) ∙ m)
+    | inr at ↦ subst P (sym at) (to (sym (get_or_push marks b false k (h.nodes ∙ sym at)) ∙ m))
+  ];
+  each = λ k w p. elim (below_or_at k n w) [
+    | inl below ↦ get_or_append_left marks (b ∷ []) false k (subst (λ j. k < j) (sym h.nodes) below) ∙ h.each k below p
+    | inr at ↦ get_or_push marks b false k (h.nodes ∙ sym at) ∙ back (subst P at p)
+  ];
+}
 
 pub marks_more : (n : ℕ) (marks new : List Bool) (b : Bool) (P : ℕ → Type 0) → Marks n marks P → new ≡ marks ++ b ∷ [] → (b ≡ true → P n) → (P n → b ≡ true) → Marks (n + 1) new P
 marks_more n marks new b P h is to back = subst (λ l. Marks (n + 1) l P) (sym is) (marks_push n marks b P h to back)
@@ -75,7 +75,7 @@ contradictions_more subjects contents firsts marks new at one other same firsts_
     let p = first_is subjects firsts at firsts_are within in
     let inside : get_or firsts at 0 < length contents = subst (λ n. get_or firsts at 0 < n) (sym many) (first_within subjects firsts at firsts_are within) in
     let first : one ≡ get_or contents (place subjects (get_or subjects at [])) [] =
-        get_or_read contents (get_or firsts at 0) one inside one_is [] ∙ ap (λ n. get_or contents n []) p in
+    get_or_read contents (get_or firsts at 0) one inside one_is [] ∙ ap (λ n. get_or contents n []) p in
     let this : other ≡ get_or contents at [] = get_or_read contents at other (subst (λ n. at < n) (sym many) within) other_is [] in
     marks_more at marks new (not same) (IsContradicted subjects contents) h is
     (λ m e. not_both same m (back (first ∙ e ∙ sym this)))
@@ -141,27 +141,27 @@ module _ (topic : Topic) (texts : List (List ℕ)) (marks : List Bool) (at : ℕ
         at = m.at;
         within = subst (λ n. m.at < n) (sym longer) (omega arith);
         marked = m.marked;
-        is = m.is ∙ ap (shown topic) (get_or-take at texts m.at [] inside ∙ sym (get_or-take (at + 1) texts m.at [] (omega arith)))
+        is = m.is ∙ ap (shown topic) (get_or-take at texts m.at [] inside ∙ sym (get_or-take (at + 1) texts m.at [] (omega arith)));
       }
 
   this_text : get_or marks at false ≡ true → (x : List ℕ) → x ≡ shown topic (get_or texts at []) → IsMarkedText topic (take (at + 1) texts) marks x
   this_text marked x is = record {
-      at = at;
-      within = subst (λ n. at < n) (sym longer) (omega arith);
-      marked = marked;
-      is = is ∙ ap (shown topic) (sym (get_or-take (at + 1) texts at [] (omega arith)))
-    }
+    at = at;
+    within = subst (λ n. at < n) (sym longer) (omega arith);
+    marked = marked;
+    is = is ∙ ap (shown topic) (sym (get_or-take (at + 1) texts at [] (omega arith)));
+  }
 
   old_or_this : (x : List ℕ) → IsMarkedText topic (take (at + 1) texts) marks x → IsMarkedText topic (take at texts) marks x ⊎ ((x ≡ shown topic (get_or texts at [])) × (get_or marks at false ≡ true))
   old_or_this x m = elim (below_or_at m.at at (subst (λ n. m.at < n) longer m.within)) [
-      | inl below ↦ inl (record {
-          at = m.at;
-          within = subst (λ n. m.at < n) (sym long) below;
-          marked = m.marked;
-          is = m.is ∙ ap (shown topic) (get_or-take (at + 1) texts m.at [] (omega arith) ∙ sym (get_or-take at texts m.at [] below))
-        })
-      | inr here ↦ inr (m.is ∙ ap (shown topic) (get_or-take (at + 1) texts m.at [] (omega arith) ∙ ap (λ k. get_or texts k []) here), ap (λ k. get_or marks k false) (sym here) ∙ m.marked)
-    ]
+    | inl below ↦ inl (record {
+      at = m.at;
+      within = subst (λ n. m.at < n) (sym long) below;
+      marked = m.marked;
+      is = m.is ∙ ap (shown topic) (get_or-take (at + 1) texts m.at [] (omega arith) ∙ sym (get_or-take at texts m.at [] below));
+    })
+    | inr here ↦ inr (m.is ∙ ap (shown topic) (get_or-take (at + 1) texts m.at [] (omega arith) ∙ ap (λ k. get_or texts k []) here), ap (λ k. get_or marks k false) (sym here) ∙ m.marked)
+  ]
 
   -- one more that is marked
   pub least_more : (o : Option (List ℕ)) → get_or marks at false ≡ true → IsLeastOf (IsMarkedText topic (take at texts) marks) o
@@ -177,16 +177,16 @@ module _ (topic : Topic) (texts : List (List ℕ)) (marks : List Bool) (at : ℕ
 
       back : (x : List ℕ) → IsMarkedText topic (take (at + 1) texts) marks x → IsMarkedText topic (take at texts) marks x ⊎ (x ≡ shown topic (get_or texts at []))
       back x m = elim (old_or_this x m) [
-          | inl old ↦ inl old
-          | inr this ↦ inr this.0
-        ]
+        | inl old ↦ inl old
+        | inr this ↦ inr this.0
+      ]
 
   -- one more that is not
   pub least_same : (o : Option (List ℕ)) → get_or marks at false ≡ false → IsLeastOf (IsMarkedText topic (take at texts) marks) o → IsLeastOf (IsMarkedText topic (take (at + 1) texts) marks) o
   least_same o unmarked h = same_least (IsMarkedText topic (take at texts) marks) (IsMarkedText topic (take (at + 1) texts) marks) o more_texts (λ x m. elim (old_or_this x m) [
-      | inl old ↦ old
-      | inr this ↦ absurd (let both : true ≡ false = sym this.1 ∙ unmarked in cc)
-    ]) h
+    | inl old ↦ old
+    | inr this ↦ absurd (let both : true ≡ false = sym this.1 ∙ unmarked in cc)
+  ]) h
 
   -- one more, which counts where it is marked
   pub least_next : (o r : Option (List ℕ)) (t : List ℕ) → t ≡ shown topic (get_or texts at []) → r ≡ cond (get_or marks at false) (lesser o (Some t)) o

@@ -1,5 +1,5 @@
 -- What is refused does not link.
-use Rattle.std.proofs.Common.{◌≡◌, ◌≢◌, ℕ, List, Result, Ok, Err, IfErr, sym, ◌∙◌}
+use Rattle.std.proofs.Common.{List, Result, Ok, Err, IfErr, ◌∙◌}
 use Rattle.vf_manifest.specs.declared.line.Line.{Line}
 use Rattle.vf_link.specs.declared.refusal.LinkRefusal.{LinkRefusal}
 use Rattle.vf_link.specs.declared.refusal.LinkRefusal.TheVariants as refusals

@@ -1,5 +1,5 @@
 -- Which manifests link, and otherwise the first clause that fails.
-use Rattle.std.specs.Prelude.{◌≡◌, ◌≢◌, ◌⊎◌, ℕ, ◌<◌, Bool, true, false, ◌||◌, List, [], ◌∷◌, ◌++◌, Some, slice_get, Contains, count_by, codes, length}
+use Rattle.std.specs.Prelude.{◌≡◌, ◌≢◌, ◌⊎◌, ℕ, ◌<◌, Bool, true, false, ◌||◌, List, ◌∷◌, ◌++◌, Some, slice_get, Contains, count_by, codes}
 use Rattle.std.specs.Str.{bytes_eq}
 use Rattle.vf_cycles.specs.Reaching.{Reaches}
 use Rattle.vf_cycles.specs.Graphs.{EachOnce}

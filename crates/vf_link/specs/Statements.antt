@@ -1,5 +1,5 @@
 -- What the lines of manifests say, by topic.
-use Rattle.std.specs.Prelude.{◌≡◌, ℕ, ◌==◌, Bool, not, List, [], ◌∷◌, Option, Some, None, flat_map, filter_map, map, take_while, codes, false}
+use Rattle.std.specs.Prelude.{ℕ, ◌==◌, Bool, not, List, Option, Some, None, flat_map, filter_map, map, take_while, codes, false}
 use Rattle.std.specs.Str.{bytes_eq}
 use Rattle.std.specs.List.{position_or_len}
 use Rattle.vf_manifest.specs.declared.line.Line.{Line}

@@ -54,7 +54,12 @@ pub fn calls_of(alloc: Global, manifests: &[Manifest]) -> Result<Calls, Memory>
     let firsts = firsts(alloc, names.as_slice())?;
     let (callers, callees) = firsts.split_at(count);
     let cycles = find_cycles(alloc, names.len(), callers, callees)?;
-    match least_marked(alloc, Topic::Calls, names.as_slice(), cycles.marks.as_slice())? {
+    match least_marked(
+        alloc,
+        Topic::Calls,
+        names.as_slice(),
+        cycles.marks.as_slice(),
+    )? {
         Some(lemma) => Ok(Calls::Cyclic(lemma)),
         None => Ok(Calls::Ordered(in_order(
             alloc,

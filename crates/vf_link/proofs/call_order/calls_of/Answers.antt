@@ -1,4 +1,4 @@
-use Rattle.std.proofs.Common.{◌≡◌, ℕ, ◌<◌, [], ◌++◌, length, take, drop, map, get_or, sym, ap, subst, ◌∙◌, arith}
+use Rattle.std.proofs.Common.{◌≡◌, ◌<◌, [], ◌++◌, length, take, drop, map, get_or, sym, ap, subst, ◌∙◌, arith}
 use Rattle.std.specs.Prelude.{Contains, ◌==◌, filter, slice_index}
 use Rattle.vf_cycles.specs.Graphs.{AreEdges, MarksCycles, IsOrder}
 use Rattle.vf_link.specs.declared.statement.Topic.TheVariants.{Calls}
@@ -45,8 +45,8 @@ returns-in-Some c =
     let marks = c.in_ok-cycles.cycles.marks.items in
     let marked : MarksCycles (length texts) front behind marks = subst (λ n. MarksCycles n front behind marks) long c.in_ok-cycles.ensures.marks in
     let least : IsLeastOf (IsMarkedText Calls texts marks) c.in_ok-lemma.field-0 =
-        subst (λ l. IsLeastOf (IsMarkedText Calls texts l) c.in_ok-lemma.field-0) c.as_slice-3.ensures.value
-        (subst (λ ts. IsLeastOf (IsMarkedText Calls ts c.as_slice-3.result.now) c.in_ok-lemma.field-0) c.as_slice-2.ensures.value c.in_ok-lemma.ensures) in
+    subst (λ l. IsLeastOf (IsMarkedText Calls texts l) c.in_ok-lemma.field-0) c.as_slice-3.ensures.value
+    (subst (λ ts. IsLeastOf (IsMarkedText Calls ts c.as_slice-3.result.now) c.in_ok-lemma.field-0) c.as_slice-2.ensures.value c.in_ok-lemma.ensures) in
     let itself = least_itself ls texts firsts front behind count texts_are firsts_are counted front_is behind_is marks marked c.in_ok-lemma.field-0 least in
     subst (IsLeastOf (CallsItself ls)) c.in-Some.is itself
 
@@ -69,8 +69,8 @@ in_order-requires-clause-within c =
     let marks = c.in_ok-cycles.cycles.marks.items in
     let marked : MarksCycles (length texts) front behind marks = subst (λ n. MarksCycles n front behind marks) long c.in_ok-cycles.ensures.marks in
     let least : IsLeastOf (IsMarkedText Calls texts marks) c.in_ok-lemma.field-0 =
-        subst (λ l. IsLeastOf (IsMarkedText Calls texts l) c.in_ok-lemma.field-0) c.as_slice-3.ensures.value
-        (subst (λ ts. IsLeastOf (IsMarkedText Calls ts c.as_slice-3.result.now) c.in_ok-lemma.field-0) c.as_slice-2.ensures.value c.in_ok-lemma.ensures) in
+    subst (λ l. IsLeastOf (IsMarkedText Calls texts l) c.in_ok-lemma.field-0) c.as_slice-3.ensures.value
+    (subst (λ ts. IsLeastOf (IsMarkedText Calls ts c.as_slice-3.result.now) c.in_ok-lemma.field-0) c.as_slice-2.ensures.value c.in_ok-lemma.ensures) in
     let itself = least_itself ls texts firsts front behind count texts_are firsts_are counted front_is behind_is marks marked c.in_ok-lemma.field-0 least in
     let none : HasNone (CallsItself ls) = subst (IsLeastOf (CallsItself ls)) c.in-None.is itself in
     let order = c.in_ok-cycles.cycles.order.items in
@@ -96,14 +96,14 @@ returns c =
     let marks = c.in_ok-cycles.cycles.marks.items in
     let marked : MarksCycles (length texts) front behind marks = subst (λ n. MarksCycles n front behind marks) long c.in_ok-cycles.ensures.marks in
     let least : IsLeastOf (IsMarkedText Calls texts marks) c.in_ok-lemma.field-0 =
-        subst (λ l. IsLeastOf (IsMarkedText Calls texts l) c.in_ok-lemma.field-0) c.as_slice-3.ensures.value
-        (subst (λ ts. IsLeastOf (IsMarkedText Calls ts c.as_slice-3.result.now) c.in_ok-lemma.field-0) c.as_slice-2.ensures.value c.in_ok-lemma.ensures) in
+    subst (λ l. IsLeastOf (IsMarkedText Calls texts l) c.in_ok-lemma.field-0) c.as_slice-3.ensures.value
+    (subst (λ ts. IsLeastOf (IsMarkedText Calls ts c.as_slice-3.result.now) c.in_ok-lemma.field-0) c.as_slice-2.ensures.value c.in_ok-lemma.ensures) in
     let itself = least_itself ls texts firsts front behind count texts_are firsts_are counted front_is behind_is marks marked c.in_ok-lemma.field-0 least in
     let none : HasNone (CallsItself ls) = subst (IsLeastOf (CallsItself ls)) c.in-None.is itself in
     let order = c.in_ok-cycles.cycles.order.items in
     let ordered : IsOrder (length texts) front behind order = subst (λ n. IsOrder n front behind order) long (c.in_ok-cycles.ensures.order (acyclic ls texts firsts front behind count texts_are firsts_are counted front_is behind_is none)) in
     let listed = c.in_ok-in_order-in-None.ensures
-        ∙ ap (λ ts. map (λ u. get_or ts u []) (filter (λ u. slice_index c.as_slice-in-None-2.result.now u == u) c.as_slice-in-None.result.now)) c.as_slice-in-None-3.ensures.value
-        ∙ ap (λ fs. map (λ u. get_or texts u []) (filter (λ u. slice_index fs u == u) c.as_slice-in-None.result.now)) c.as_slice-in-None-2.ensures.value
-        ∙ ap (λ l. map (λ u. get_or texts u []) (filter (λ u. slice_index firsts u == u) l)) c.as_slice-in-None.ensures.value in
+    ∙ ap (λ ts. map (λ u. get_or ts u []) (filter (λ u. slice_index c.as_slice-in-None-2.result.now u == u) c.as_slice-in-None.result.now)) c.as_slice-in-None-3.ensures.value
+    ∙ ap (λ fs. map (λ u. get_or texts u []) (filter (λ u. slice_index fs u == u) c.as_slice-in-None.result.now)) c.as_slice-in-None-2.ensures.value
+    ∙ ap (λ l. map (λ u. get_or texts u []) (filter (λ u. slice_index firsts u == u) l)) c.as_slice-in-None.ensures.value in
     (none, subst (IsCallOrder ls) (sym listed) (order_is ls texts firsts front behind count texts_are firsts_are counted front_is behind_is order ordered))

@@ -37,11 +37,11 @@ loop-at-preserved c =
     let before = map (λ u. get_or texts u []) (filter (λ u. slice_index firsts u == u) (take index order)) in
     elim c.if-firsts-at.branch [
       | then-firsts-at+in_ok-copy+in_ok-push w ↦
-        (let within = c.requires.within node (Contains-get_or order index 0 c.loop-at-test.true) in
-         let copied : w.in_ok-copy.field-0 ≡ get_or texts node [] = w.in_ok-copy.ensures ∙ get_or_read texts node w.index-texts-at.result within w.index-texts-at.is [] in
-         w.ordered-is ∙ w.in_ok-push.ensures.pushed ∙ ap (λ l. l ++ w.in_ok-copy.field-0 ∷ []) c.loop-at.invariant ∙ ap (λ t. before ++ t ∷ []) copied
-         ∙ sym (kept_more (λ u. get_or texts u []) (λ u. slice_index firsts u == u) order index 0 c.loop-at-test.true ((Decides-eqb (get_or firsts node 0) node).1 w.if-firsts-at.true)))
+          (let within = c.requires.within node (Contains-get_or order index 0 c.loop-at-test.true) in
+          let copied : w.in_ok-copy.field-0 ≡ get_or texts node [] = w.in_ok-copy.ensures ∙ get_or_read texts node w.index-texts-at.result within w.index-texts-at.is [] in
+          w.ordered-is ∙ w.in_ok-push.ensures.pushed ∙ ap (λ l. l ++ w.in_ok-copy.field-0 ∷ []) c.loop-at.invariant ∙ ap (λ t. before ++ t ∷ []) copied
+          ∙ sym (kept_more (λ u. get_or texts u []) (λ u. slice_index firsts u == u) order index 0 c.loop-at-test.true ((Decides-eqb (get_or firsts node 0) node).1 w.if-firsts-at.true)))
       | else-firsts-at w ↦
-        w.ordered-is ∙ c.loop-at.invariant
-        ∙ sym (left_more (λ u. get_or texts u []) (λ u. slice_index firsts u == u) order index 0 c.loop-at-test.true (apart (get_or firsts node 0) node w.if-firsts-at.false))
+          w.ordered-is ∙ c.loop-at.invariant
+          ∙ sym (left_more (λ u. get_or texts u []) (λ u. slice_index firsts u == u) order index 0 c.loop-at-test.true (apart (get_or firsts node 0) node w.if-firsts-at.false))
     ]

@@ -1,4 +1,4 @@
-use Rattle.std.proofs.Common.{◌≡◌, ℕ, [], map, take, get_or}
+use Rattle.std.proofs.Common.{◌≡◌, [], map, take, get_or}
 use Rattle.std.specs.Prelude.{◌==◌, filter, slice_index}
 use Rattle.vf_link.proofs.call_order.in_order.Given as goal
 

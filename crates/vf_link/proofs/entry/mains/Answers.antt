@@ -6,5 +6,5 @@ loop-at-preserved c =
     let e = c.in_ok-push_mains.ensures in
     record {
       count = mains_more c.args.manifests.now c.loop-at.at _ _ c.loop-at-test.true c.loop-at.invariant.count e.count;
-      each = e.each c.loop-at.invariant.each
+      each = e.each c.loop-at.invariant.each;
     }

@@ -6,6 +6,6 @@ use Rattle.vf_link.proofs.entry.mains.Given as goal
 
 abbrev pub invariant-loop-at : goal.invariant-loop-at
 invariant-loop-at l = record {
-    count : length l.mains.items ≡ mains (all_lines (take l.at l.manifests));
-    each : All (λ e. IsMain l.manifests e.manifest e.identity) l.mains.items
-  }
+  count : length l.mains.items ≡ mains (all_lines (take l.at l.manifests));
+  each : All (λ e. IsMain l.manifests e.manifest e.identity) l.mains.items;
+}

@@ -6,6 +6,6 @@ use Rattle.vf_link.proofs.entry.push_mains.Given as goal
 
 abbrev pub invariant-loop-line : goal.invariant-loop-line
 invariant-loop-line l = record {
-    count : length l.mains.items ≡ length l.fn.mains.items + count_by provides_main (take l.line-index l.lines);
-    each : All (λ e. IsMain l.manifests e.manifest e.identity) l.fn.mains.items → All (λ e. IsMain l.manifests e.manifest e.identity) l.mains.items
-  }
+  count : length l.mains.items ≡ length l.fn.mains.items + count_by provides_main (take l.line-index l.lines);
+  each : All (λ e. IsMain l.manifests e.manifest e.identity) l.fn.mains.items → All (λ e. IsMain l.manifests e.manifest e.identity) l.mains.items;
+}

@@ -18,6 +18,6 @@ returns c =
     let marks = c.as_slice-2.result.now in
     let marked : Marks (length s) marks (IsContradicted s t) = subst (λ l. Marks (length s) l (IsContradicted s t)) (sym c.as_slice-2.ensures.value) c.in_ok-marks.ensures in
     let m : Marks (length (subjects said)) marks (IsContradicted (subjects said) (contents said)) =
-        subst (λ a. Marks (length a) marks (IsContradicted a (contents said))) subjects_are (subst (λ b. Marks (length s) marks (IsContradicted s b)) contents_are marked) in
+    subst (λ a. Marks (length a) marks (IsContradicted a (contents said))) subjects_are (subst (λ b. Marks (length s) marks (IsContradicted s b)) contents_are marked) in
     if_same (IsMarkedText topic (subjects said) marks) (Differ (shown topic) said) c.least_marked.result (differ_from_mark topic said marks m) (mark_from_differ topic said marks m)
     (subst (λ a. IfOk c.least_marked.result (IsLeastOf (IsMarkedText topic a marks))) subjects_are c.least_marked.ensures)

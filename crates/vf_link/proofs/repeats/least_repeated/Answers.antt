@@ -1,4 +1,4 @@
-use Rattle.std.proofs.Common.{◌≡◌, length, List, Bool, sym, subst, ◌∙◌}
+use Rattle.std.proofs.Common.{length, sym, subst}
 use Rattle.vf_link.specs.declared.statement.Topic.TheVariants.{Provided}
 use Rattle.vf_link.specs.Least.{IsMarkedText}
 use Rattle.vf_link.specs.Linking.{StandsTwice}

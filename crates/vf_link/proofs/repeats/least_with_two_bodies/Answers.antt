@@ -1,4 +1,4 @@
-use Rattle.std.proofs.Common.{◌≡◌, ◌⊎◌, List, ℕ, sym, ap, subst, ◌∙◌}
+use Rattle.std.proofs.Common.{◌⊎◌, sym, ap, subst, ◌∙◌}
 use Rattle.vf_link.specs.declared.statement.Topic.TheVariants.{Bodies, Structs, Instances}
 use Rattle.vf_link.specs.Statements.{all_lines, statements, shown}
 use Rattle.vf_link.specs.Least.{IsLeastOf, lesser}

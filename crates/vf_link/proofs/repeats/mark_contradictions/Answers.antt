@@ -1,4 +1,4 @@
-use Rattle.std.proofs.Common.{◌<◌, length, get_or, sym, subst, arith}
+use Rattle.std.proofs.Common.{◌<◌, get_or, sym, subst, arith}
 use Rattle.vf_link.proofs.Marking.{first_within, contradictions_more}
 use Rattle.vf_link.proofs.repeats.mark_contradictions.Goals as goal
 

@@ -16,8 +16,10 @@ returns-then-first-self c =
 pub returns-else-self-at : goal.returns-else-self-at
 returns-else-self-at c =
     let r = c.args.self.now in
-    let p = first_place r.statements.subjects.items r.firsts.items c.args.at c.index-first.result.now c.requires.firsts c.requires.within c.index-first.ensures in
-    (λ h. absurd (false≢true h), λ d. absurd (elim c.else-self-at.branch [
-      | else-self-at-via-then-self-at+else-first-self w ↦ (let front = d.1 in let behind = w.if-first-self.false in let no : ⊥ = omega arith in no)
-      | else-self-at-via-else-self-at w ↦ (let behind = d.0 in let front = w.if-self-at.false in let no : ⊥ = omega arith in no)
-    ]))
+    let p = first_place r.statements.subjects.items r.firsts.items c.args.at c.index-first.result.now c.requires.firsts c.requires.within c.index-first.ensures in (
+      λ h. absurd (false≢true h),
+      λ d. absurd (elim c.else-self-at.branch [
+        | else-self-at-via-then-self-at+else-first-self w ↦ (let front = d.1 in let behind = w.if-first-self.false in let no : ⊥ = omega arith in no)
+        | else-self-at-via-else-self-at w ↦ (let behind = d.0 in let front = w.if-self-at.false in let no : ⊥ = omega arith in no)
+      ]),
+    )

@@ -1,7 +1,7 @@
-use Rattle.std.proofs.Common.{◌≡◌, length, List, ℕ, Bool, Option, sym, subst, ◌∙◌}
+use Rattle.std.proofs.Common.{length, List, sym, subst, ◌∙◌}
 use Rattle.vf_manifest.specs.declared.line.Line.{Line}
 use Rattle.vf_link.specs.declared.statement.Topic.TheVariants.{Provided, Required}
-use Rattle.vf_link.specs.Statements.{statements, subjects}
+use Rattle.vf_link.specs.Statements.{statements}
 use Rattle.vf_link.specs.Least.{IsLeastOf, IsMarkedText, HasNone}
 use Rattle.vf_link.specs.Linking.{HasOtherSignature, IsProvidedTwice}
 use Rattle.vf_link.specs.Marks.{Marks, DisagreesWith, Meets}
@@ -20,10 +20,10 @@ returns c =
     if_more (IsLeastOf (IsMarkedText Required c.as_slice-subjects.result.now marks))
     (λ x. (ls : List Line) → Meets ls r → HasNone (IsProvidedTwice ls) → IsLeastOf (HasOtherSignature ls) x) c.least_marked.result
     (λ o h ls meets once.
-      let m' : Marks (length (names ls)) marks (DisagreesWith (length (statements Provided ls)) (names ls) (signatures ls)) =
-          subst (λ n. Marks (length (names ls)) marks (DisagreesWith n (names ls) (signatures ls))) meets.count
-          (subst (λ b. Marks (length (names ls)) marks (DisagreesWith r.provided (names ls) b)) meets.contents
-          (subst (λ a. Marks (length a) marks (DisagreesWith r.provided a t)) meets.subjects m)) in
-      same_least (IsMarkedText Required (names ls) marks) (HasOtherSignature ls) o (other_from_mark ls marks m') (mark_from_other ls marks m' once)
-      (subst (λ a. IsLeastOf (IsMarkedText Required a marks) o) (all ∙ meets.subjects) h))
+    let m' : Marks (length (names ls)) marks (DisagreesWith (length (statements Provided ls)) (names ls) (signatures ls)) =
+    subst (λ n. Marks (length (names ls)) marks (DisagreesWith n (names ls) (signatures ls))) meets.count
+    (subst (λ b. Marks (length (names ls)) marks (DisagreesWith r.provided (names ls) b)) meets.contents
+    (subst (λ a. Marks (length a) marks (DisagreesWith r.provided a t)) meets.subjects m)) in
+    same_least (IsMarkedText Required (names ls) marks) (HasOtherSignature ls) o (other_from_mark ls marks m') (mark_from_other ls marks m' once)
+    (subst (λ a. IsLeastOf (IsMarkedText Required a marks) o) (all ∙ meets.subjects) h))
     c.least_marked.ensures

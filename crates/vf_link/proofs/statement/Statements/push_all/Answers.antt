@@ -1,5 +1,5 @@
-use Rattle.std.proofs.Common.{◌≡◌, ◌++◌, take, sym, ap, ◌∙◌}
-use Rattle.vf_link.specs.Statements.{all_lines, statements, subjects, contents}
+use Rattle.std.proofs.Common.{◌++◌, ap, ◌∙◌}
+use Rattle.vf_link.specs.Statements.{statements, subjects, contents}
 use Rattle.vf_link.proofs.Stated.{subjects_manifest, contents_manifest}
 use Rattle.vf_link.proofs.statement.Statements.push_all.Goals as goal
 
@@ -15,5 +15,5 @@ loop-manifest-preserved c =
       subjects = subjects_manifest c.args.topic was.subjects.items old.subjects.items new.subjects.items c.args.manifests.now c.loop-manifest.manifest-index m c.loop-manifest-test.true c.manifest-item.is c.loop-manifest.invariant.subjects
           (e.subjects ∙ ap (λ ls. old.subjects.items ++ subjects (statements c.args.topic ls)) lines);
       contents = contents_manifest c.args.topic was.contents.items old.contents.items new.contents.items c.args.manifests.now c.loop-manifest.manifest-index m c.loop-manifest-test.true c.manifest-item.is c.loop-manifest.invariant.contents
-          (e.contents ∙ ap (λ ls. old.contents.items ++ contents (statements c.args.topic ls)) lines)
+          (e.contents ∙ ap (λ ls. old.contents.items ++ contents (statements c.args.topic ls)) lines);
     }

@@ -1,6 +1,3 @@
-use Rattle.std.proofs.Common.{◌≡◌, ◌++◌, take, sym, ap, ◌∙◌}
-use Rattle.std.proofs.lemmas.List.{take_all}
-use Rattle.vf_link.specs.Statements.{statements, subjects, contents}
 use Rattle.vf_link.proofs.Stated.{subjects_line, contents_line}
 use Rattle.vf_link.proofs.statement.Statements.push_lines.Goals as goal
 
@@ -13,5 +10,5 @@ loop-line-preserved c =
     let e = c.in_ok-push_line.ensures in
     record {
       subjects = subjects_line c.args.topic was.subjects.items old.subjects.items new.subjects.items c.args.lines.now c.loop-line.line-index l c.loop-line-test.true c.line-item.is c.loop-line.invariant.subjects e.subjects;
-      contents = contents_line c.args.topic was.contents.items old.contents.items new.contents.items c.args.lines.now c.loop-line.line-index l c.loop-line-test.true c.line-item.is c.loop-line.invariant.contents e.contents
+      contents = contents_line c.args.topic was.contents.items old.contents.items new.contents.items c.args.lines.now c.loop-line.line-index l c.loop-line-test.true c.line-item.is c.loop-line.invariant.contents e.contents;
     }
