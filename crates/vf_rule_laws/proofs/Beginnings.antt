@@ -1,17 +1,16 @@
 -- Bodies and checks of claims begin in typed states, and the states at the heads of loops are typed.
-use Rattle.std.proofs.Common.{◌≡◌, ℕ, zero, suc, ◌+◌, ◌-◌, List, [], ◌∷◌, ◌++◌, length, map, replicate, take, slice_get, Option, Some, None, refl, sym, ap, subst, ◌∙◌, inl, inr, arith}
+use Rattle.std.proofs.Common.{◌≡◌, ℕ, zero, suc, ◌+◌, ◌-◌, List, [], ◌∷◌, ◌++◌, length, map, replicate, take, slice_get, Option, Some, None, refl, sym, subst, ◌∙◌, arith}
 use Rattle.vf_tree.specs.Core.{TypeTree, FunctionTree, ProgramTree}
-use Rattle.vf_meaning.specs.Ghost.{Sort, Integers, CurrentThread, Variable}
+use Rattle.vf_meaning.specs.Ghost.{Sort}
 use Rattle.vf_meaning.specs.Assertions.{ContractTree, Environment}
 use Rattle.vf_rules.specs.Terms.{Term}
-use Rattle.vf_rules.specs.Terms as terms
 use Rattle.vf_rules.specs.States.{Fact, OfSort, SymbolicChunk, SymbolicState, Entails, facts_of_thread, KnowsThread}
 use Rattle.vf_rules.specs.Fresh.{symbol}
 use Rattle.vf_rules.specs.Types.{facts_of_type}
 use Rattle.vf_rules.specs.Produce.{Produce}
 use Rattle.vf_rules.specs.Consume.{EntailsAll}
 use Rattle.vf_rules.specs.Laws.{IsAmong}
-use Rattle.vf_rules.specs.Loops.{Known, OfLocal, facts_of_known, Changing, facts_of_changing, Loop, before_invariant, Comes, kept_term, changed_term, LocalsCome, Arrives}
+use Rattle.vf_rules.specs.Loops.{OfLocal, facts_of_known, Changing, facts_of_changing, Loop, Comes, kept_term, changed_term, LocalsCome}
 use Rattle.vf_rules.specs.Accept.{all_of_it, call_store, facts_of_types, facts_of_sorts, symbols_from, parameter_symbols, beginning}
 use Rattle.vf_rules.specs.Ranges.{LocalsTyped, ContentsTyped, SymbolsSorted, IsTypedState}
 use Rattle.vf_rule_laws.specs.Typing.{IsTypedFunction}
@@ -53,12 +52,11 @@ module _ (e : Environment) where
     where
       less : (n : ℕ) → n - 0 ≡ n
       less n = omega arith
-  parameters_typed path i (k ∷ types) others h =
-      (
-        all_by e path (facts_of_type k (symbol i)) (λ v m. meets_front e v (facts_of_type k (symbol i)) _ (all_met e path _ h v m)),
-        subst (λ n. LocalsTyped e path (types ++ others) (map (λ t. Some t) (symbols_from (suc i) (length types)) ++ replicate n None)) (sym (one_fewer (length (types ++ others)) (length types)))
-            (parameters_typed path (suc i) types others (all_by e path (facts_of_types types (symbols_from (suc i) (length types))) (λ v m. meets_back e v (facts_of_type k (symbol i)) _ (all_met e path _ h v m)))),
-      )
+  parameters_typed path i (k ∷ types) others h = (
+    all_by e path (facts_of_type k (symbol i)) (λ v m. meets_front e v (facts_of_type k (symbol i)) _ (all_met e path _ h v m)),
+    subst (λ n. LocalsTyped e path (types ++ others) (map (λ t. Some t) (symbols_from (suc i) (length types)) ++ replicate n None)) (sym (one_fewer (length (types ++ others)) (length types)))
+        (parameters_typed path (suc i) types others (all_by e path (facts_of_types types (symbols_from (suc i) (length types))) (λ v m. meets_back e v (facts_of_type k (symbol i)) _ (all_met e path _ h v m)))),
+  )
 
   -- the symbols of parameters have their sorts
   symbols_sorted : (i n : ℕ) (sorts : List Sort) (j : ℕ) (s : Sort) → slice_get (take n sorts) j ≡ Some s → Entails e (facts_of_sorts sorts (symbols_from i n)) (OfSort (symbol (i + j)) s)

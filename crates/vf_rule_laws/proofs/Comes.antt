@@ -1,11 +1,11 @@
 -- What is to hold behind an assertion may be that the store and the state are among finitely many outcomes: those to which its reading comes.
-use Rattle.std.proofs.Common.{◌≡◌, ℕ, zero, suc, ◌-◌, List, [], ◌∷◌, ◌++◌, drop, map, Option, Some, None, refl, sym, ap, ap₂, subst, subst₂, ◌∙◌, ◌⊎◌, inl, inr}
+use Rattle.std.proofs.Common.{◌≡◌, ℕ, zero, suc, ◌-◌, List, [], ◌∷◌, ◌++◌, drop, map, Option, Some, None, refl, ap₂, subst₂, ◌⊎◌, inl, inr}
 use Rattle.vf_tree.specs.Core.{ProgramTree, Equal}
 use Rattle.vf_meaning.specs.Ghost.{Sort, Not, Compare, Construct}
 use Rattle.vf_meaning.specs.Assertions.{ShareTree, Times, Taken, PatternTree, Is, Names, Wild, Assertion, Pure, Empty, Both, Choose, Switch, Cell, Chunk, Branches, no_branches, branch, Environment}
 use Rattle.vf_rules.specs.Terms.{Term, Store, term_of, in_row}
-use Rattle.vf_rules.specs.States.{Fact, Holds, CellOf, Of, SymbolicChunk, SymbolicState, assuming, assuming_all, with_chunk, with_chunks}
-use Rattle.vf_rules.specs.Produce.{known, facts_of_cell, facts_of_chunk, HasArgumentSort, valued_arguments, NoArgumentSort, Given, ProducePatterns, ProduceShare, Produce, ProduceBranches}
+use Rattle.vf_rules.specs.States.{Fact, Holds, SymbolicChunk, SymbolicState, assuming, with_chunks}
+use Rattle.vf_rules.specs.Produce.{known, NoArgumentSort, Given, ProducePatterns, ProduceShare, Produce, ProduceBranches}
 use Rattle.vf_rules.specs.Take.{Change, learns, merges, names_value, makes_value, Changes, no_change, and_change}
 use Rattle.vf_rules.specs.Consume.{ConsumePatterns, ConsumeShare, Consume, ConsumeBranches}
 use Rattle.vf_rules.specs.Laws.{Outcome, IsAmong}

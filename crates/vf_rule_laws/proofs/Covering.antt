@@ -1,13 +1,13 @@
 -- Branches that have each constructor of a datatype cover its values, in the linked environment too.
-use Rattle.std.proofs.Common.{◌≡◌, ℕ, Bool, true, false, List, [], ◌∷◌, map, slice_get, Option, Some, None, refl, sym, ap, subst, ◌∙◌, ◌⊎◌, inl, inr}
+use Rattle.std.proofs.Common.{◌≡◌, List, [], ◌∷◌, map, Option, Some, None, refl, sym, subst, ◌∙◌, ◌⊎◌, inl, inr}
 use Rattle.std.specs.Bool.{MatchBool}
 use Rattle.std.proofs.lemmas.Bool.{cases_Bool}
 use Rattle.vf_tree.specs.Core.{Identity}
 use Rattle.vf_model.specs.Values.{Value, Values, none, more, same_identity}
 use Rattle.vf_model.specs.Values as values
-use Rattle.vf_meaning.specs.Ghost.{Sort, Integers, Truths, Pointers, Fractions, Anything, Datatype, Sorts, count_sorts, instance_of, Name, Numbered, ConstructorTree}
+use Rattle.vf_meaning.specs.Ghost.{Sort, Integers, Truths, Pointers, Fractions, Anything, Datatype, Sorts, instance_of, Name, ConstructorTree}
 use Rattle.vf_meaning.specs.Assertions.{Branches, no_branches, branch, Environment}
-use Rattle.vf_meaning.specs.Sorts.{IsOrAny, IsDatatypeOf, ArgumentsAre, HasSort, HaveSorts}
+use Rattle.vf_meaning.specs.Sorts.{IsDatatypeOf, ArgumentsAre, HasSort, HaveSorts}
 use Rattle.vf_rules.specs.Produce.{NamesHaveSorts, IsCovered}
 use Rattle.vf_rule_laws.specs.Covering.{NamesAreFor, HasBranch, HasEachConstructor, EachConstructorCovers, LinkingAddsNoConstructor, SwitchesCoverWhereLinked}
 

@@ -1,17 +1,17 @@
 -- An accepted body has a derivation whose every state is typed.
-use Rattle.std.proofs.Common.{◌≡◌, ℕ, List, ◌∷◌, Option, refl}
+use Rattle.std.proofs.Common.{ℕ, List, Option}
 use Rattle.vf_tree.specs.Core.{FunctionTree, ProgramTree, Call, CallPointer}
 use Rattle.vf_model.specs.PreludeFunctions.{signature_of}
 use Rattle.vf_meaning.specs.Ghost.{Sort}
 use Rattle.vf_meaning.specs.Assertions.{ContractTree, Environment}
 use Rattle.vf_rules.specs.Terms as terms
 use Rattle.vf_rules.specs.States.{SymbolicState}
-use Rattle.vf_rules.specs.Laws.{Outcome, IsAmong}
+use Rattle.vf_rules.specs.Laws.{IsAmong}
 use Rattle.vf_rules.specs.Loops.{Loop}
 use Rattle.vf_rules.specs.Accept.{call_store, pointer_store, Accepts, do_set, do_if, do_load, do_store, do_allocate, do_free_null, do_free, do_call, do_return, do_leave, do_call_pointer, do_abort, do_put_char, do_print_int, do_prelude, do_allocate_ints, do_free_ints_null, do_free_ints, do_offset_zero, do_offset, do_load_at, do_store_at, may_drop, may_change, may_arrange, may_open, may_close, may_see, may_split, may_leak, may_know, may_call_lemma, may_enter, may_repeat}
 use Rattle.vf_rules.specs.Ranges.{IsTypedState}
 use Rattle.vf_rule_laws.specs.Typing.{IsTypedFunction, of_program, of_prelude}
-use Rattle.vf_rule_laws.specs.Leading.{StepLeads, sets, compares_true, compares_false, loads, stores, gets_nothing, gets_memory, frees_nothing, frees, puts_char, prints_int, gets_no_ints, gets_ints, frees_no_ints, frees_ints, stays_there, goes_on, loads_at, stores_at, changes, arranges, sees, splits_true, splits_false, opens, closes, leaks, knows, calls_lemma}
+use Rattle.vf_rule_laws.specs.Leading.{StepLeads, sets, compares_true, compares_false, loads, stores, gets_nothing, gets_memory, frees_nothing, frees, puts_char, prints_int, gets_no_ints, gets_ints, frees_no_ints, frees_ints, stays_there, goes_on, loads_at, stores_at, changes, arranges, sees, splits_true, splits_false}
 use Rattle.vf_rule_laws.specs.Derivations.{Each, HasTypedOutcomes, IsState, AcceptedBodiesAreTyped}
 use Rattle.vf_rule_laws.proofs.Steps.{step_keeps}
 use Rattle.vf_rule_laws.proofs.Ghost.{led}

@@ -1,8 +1,7 @@
 -- The examples meet the premises of the laws.
-use Rattle.std.proofs.Common.{◌≡◌, ◌≢◌, ℕ, zero, suc, pos, negsuc, Bool, true, false, cond, List, [], ◌∷◌, slice_get, map, Option, Some, None, refl, sym, ap, subst, ◌∙◌, inl, inr, arith}
+use Rattle.std.proofs.Common.{◌≡◌, ◌≢◌, ℕ, zero, suc, pos, negsuc, Bool, true, false, cond, [], ◌∷◌, slice_get, map, Some, None, refl, sym, subst, inl, arith}
 use Rattle.std.specs.Prelude.{Contains, IsTrue, ◌≤ℤ◌, codes}
 use Rattle.std.specs.Bool.{MatchBool}
-use Rattle.std.proofs.lemmas.Bool.{cases_Bool}
 use Rattle.vf_base.specs.declared.int_type.IntType.TheVariants as types
 use Rattle.vf_tree.specs.Core.{Void, Integer, Divide, Read, StepTree}
 use Rattle.vf_model.specs.Values.{same_identity}

@@ -1,5 +1,5 @@
 -- Calls, and rules of annotations that lead to several states, come to typed ones.
-use Rattle.std.proofs.Common.{◌≡◌, ℕ, List, [], ◌∷◌, ◌++◌, map, Option, Some, None, refl, sym, ap, subst, ◌∙◌, ◌⊎◌, inl, inr}
+use Rattle.std.proofs.Common.{ℕ, List, [], ◌∷◌, ◌++◌, Option, refl}
 use Rattle.vf_tree.specs.Core.{TypeTree, ProgramTree}
 use Rattle.vf_meaning.specs.Ghost.{Sort, Result}
 use Rattle.vf_meaning.specs.Assertions.{Assertion, ContractTree, Environment}

@@ -1,5 +1,5 @@
 -- Quotients and remainders of numbers of a type by a divisor are of that type.
-use Rattle.std.proofs.Common.{◌≡◌, ℕ, zero, suc, ◌-◌, ◌^◌, ◌≤◌, ◌<◌, ◌/◌, ◌%◌, List, ℤ, pos, negsuc, neg_ℤ, Bool, true, false, cond, not, refl, sym, subst, subst₂, ◌∙◌, ◌⊎◌, inl, inr, ⊎_elim, arith}
+use Rattle.std.proofs.Common.{◌≡◌, ℕ, zero, suc, ◌-◌, ◌^◌, ◌≤◌, ◌<◌, ◌/◌, ◌%◌, List, ℤ, pos, negsuc, neg_ℤ, Bool, true, false, cond, not, refl, sym, subst, subst₂, ◌⊎◌, inl, inr, ⊎_elim, arith}
 use Rattle.std.specs.Prelude.{int_le, int_div, int_rem, unsigned_abs}
 use Rattle.std.specs.Ordering.{int_eq}
 use Rattle.std.proofs.lemmas.Int.{ints}

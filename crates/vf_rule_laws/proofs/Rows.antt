@@ -1,5 +1,5 @@
 -- A chunk of a predicate value that is known to be that of rows of int cells tells the row's length.
-use Rattle.std.proofs.Common.{◌≡◌, pos, List, [], ◌∷◌, Option, Some, None, refl, subst₂}
+use Rattle.std.proofs.Common.{◌≡◌, pos, List, [], ◌∷◌, Option, Some, None, subst₂}
 use Rattle.std.specs.Prelude.{codes}
 use Rattle.vf_tree.specs.Core.{LessEqual}
 use Rattle.vf_model.specs.Values.{Value}
@@ -8,7 +8,7 @@ use Rattle.vf_meaning.specs.Valuations.{Valuation}
 use Rattle.vf_meaning.specs.Assertions.{Named, Environment}
 use Rattle.vf_meaning.specs.Parts.{Part}
 use Rattle.vf_rules.specs.Terms.{Term}
-use Rattle.vf_rules.specs.States.{Holds, OfSort, SymbolicChunk, SymbolicState, Meets, HeadMeans, ChunkMeans, StandsFor, with_chunks}
+use Rattle.vf_rules.specs.States.{Holds, OfSort, SymbolicChunk, SymbolicState, Meets, HeadMeans, ChunkMeans, StandsFor}
 use Rattle.vf_rules.specs.Take.{Removes, removes_here, removes_later, Renames, Replaces, replaces_here, replaces_later, names_value, no_change, and_change}
 use Rattle.vf_rules.specs.Arrays.{row_head}
 use Rattle.vf_rules.proofs.Takes.{removes_parted, changes_stand}

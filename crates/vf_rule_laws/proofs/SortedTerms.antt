@@ -1,20 +1,18 @@
 -- Terms that are of a sort have a value of it.
-use Rattle.std.proofs.Common.{◌≡◌, ℕ, suc, Bool, true, false, cond, List, [], ◌∷◌, ◌++◌, map, drop, Option, Some, None, refl, sym, ap, subst, subst₂, ◌∙◌, ◌⊎◌, inl, inr}
+use Rattle.std.proofs.Common.{◌≡◌, ℕ, Bool, true, false, cond, List, [], ◌∷◌, ◌++◌, map, drop, Option, Some, None, refl, sym, subst, subst₂, ◌⊎◌, inl, inr}
 use Rattle.vf_tree.specs.Core.{Identity}
 use Rattle.vf_model.specs.Values.{Dyadic, Value, Values, none, more}
 use Rattle.vf_model.specs.Values as values
-use Rattle.vf_meaning.specs.Fractions.{product, IsPositive}
+use Rattle.vf_meaning.specs.Fractions.{IsPositive}
 use Rattle.vf_meaning.specs.Ghost.{Sort, Integers, Truths, Pointers, Fractions, Anything, Parameter, Datatype, Predicates, Sorts, count_sorts, instance_of, GhostExpressions, ConstructorTree}
 use Rattle.vf_meaning.specs.Ghost as ghost
 use Rattle.vf_meaning.specs.Valuations.{Valuation, count, is_true}
 use Rattle.vf_meaning.specs.GhostValues.{value_of, values_of, shared}
 use Rattle.vf_meaning.specs.Assertions.{PredicateTree, Environment}
-use Rattle.vf_meaning.specs.Sorts.{IsDatatypeOf, ArgumentsAre, AreDeclaredWith, ParametersAre, IsPredicateSort, HasSort, HaveSorts, HaveFirst}
+use Rattle.vf_meaning.specs.Sorts.{IsDatatypeOf, ArgumentsAre, AreDeclaredWith, HasSort, HaveSorts, HaveFirst}
 use Rattle.vf_meaning.proofs.Fractions.{stays_positive}
 use Rattle.vf_rules.specs.Terms.{Term}
-use Rattle.vf_rules.specs.States.{Fact, meaning, value_in, Meets}
-use Rattle.vf_rules.specs.States as states
-use Rattle.vf_rules.specs.Ranges.{SymbolsSorted}
+use Rattle.vf_rules.specs.States.{meaning}
 use Rattle.vf_rule_laws.specs.SortedTerms.{IsOfSort, any_symbol, the_thread, a_number, a_truth, a_fraction, the_null, a_function, a_construct, an_application, a_predicate, a_claim, a_negation, a_computation, a_pointer_sum, a_share, a_comparison, a_denial, a_conjunction, a_disjunction, a_choice, of_any, AreOfSorts, none_of_sorts, more_of_sorts}
 use Rattle.vf_rule_laws.specs.TypedLaws.{SortedTermsHaveSorts}
 use Rattle.vf_rule_laws.proofs.Steps.{further_pointer}

@@ -1,5 +1,5 @@
 -- The rule of each core step leads from a typed state to typed states.
-use Rattle.std.proofs.Common.{◌≡◌, ℕ, zero, suc, ℤ, List, [], ◌∷◌, ◌++◌, Option, Some, None, refl, sym, ap, subst, ◌∙◌, ◌⊎◌, inl, inr}
+use Rattle.std.proofs.Common.{◌≡◌, ℕ, zero, suc, ℤ, List, [], ◌∷◌, ◌++◌, Option, Some, None, refl, sym, subst, ◌∙◌, inl}
 use Rattle.vf_base.specs.declared.int_type.IntType.TheVariants as types
 use Rattle.vf_tree.specs.Core.{Identity, Field, TypeTree, Integer, ExpressionTree, FunctionTree, ProgramTree, Set, Load, Store, Allocate, Offset, LoadAt, AllocateInts, Call, NotEqual}
 use Rattle.vf_model.specs.Accesses.{field_count}
@@ -21,10 +21,10 @@ use Rattle.vf_rules.specs.Arrays.{row_chunk, int_block_chunk}
 use Rattle.vf_rules.specs.Accept.{all_of_it, with_local, receiving, cell_chunk, block_chunk, field_at, new_chunks, TakesFields}
 use Rattle.vf_rules.specs.Ranges.{ContentTyped, ContentsTyped, IsTypedState}
 use Rattle.vf_rules.proofs.Ranges.{facts_keep_types, setting_keeps_types, storing_keeps_types}
-use Rattle.vf_rule_laws.specs.Typing.{IsPointerType, FitsInto, HasType, LocalIs, TakesResult, IsTypedStep, IsTypedFunction, of_prelude}
+use Rattle.vf_rule_laws.specs.Typing.{IsPointerType, FitsInto, HasType, LocalIs, TakesResult, IsTypedFunction, of_prelude}
 use Rattle.vf_rule_laws.specs.Leading.{StepLeads, sets, compares_true, compares_false, loads, stores, gets_nothing, gets_memory, frees_nothing, frees, puts_char, prints_int, gets_no_ints, gets_ints, frees_no_ints, frees_ints, stays_there, goes_on, loads_at, stores_at}
 use Rattle.vf_rule_laws.specs.TypedLaws.{StepsKeepTypes}
-use Rattle.vf_rule_laws.proofs.Paths.{all_by, added_entailed}
+use Rattle.vf_rule_laws.proofs.Paths.{added_entailed}
 use Rattle.vf_rule_laws.proofs.Typed.{pointer_facts, fitting_facts, expression_facts}
 
 head_clash : {A : Type 0} {f : Field} {h : _} → Of h ≡ CellOf f → A

@@ -1,5 +1,5 @@
 -- Expressions that have types have values of these, and what rules ask of types is so.
-use Rattle.std.proofs.Common.{◌≡◌, ◌≢◌, ℕ, zero, suc, false, true, Bool, cond, List, [], ◌∷◌, ◌++◌, slice_get, Option, Some, None, refl, sym, ap, subst, ◌∙◌, ◌⊎◌, inl, inr, ⊎_elim}
+use Rattle.std.proofs.Common.{◌≡◌, ◌≢◌, ℕ, zero, suc, false, Bool, cond, List, [], ◌∷◌, slice_get, Option, Some, None, refl, sym, subst, ◌∙◌, inl, inr, ⊎_elim}
 use Rattle.std.proofs.lemmas.Bool.{cases_Bool}
 use Rattle.vf_base.specs.declared.int_type.IntType.{IntType}
 use Rattle.vf_base.specs.declared.int_type.IntType.TheVariants as types
@@ -8,20 +8,20 @@ use Rattle.vf_tree.specs.Core as core
 use Rattle.vf_model.specs.Integers.{least, greatest}
 use Rattle.vf_model.specs.Values.{Value}
 use Rattle.vf_model.specs.Values as values
-use Rattle.vf_meaning.specs.Ghost.{Sort, Integers, Truths, Pointers, Number, Truth, Null, Function, Negate, Arithmetic, Compare}
+use Rattle.vf_meaning.specs.Ghost.{Integers, Truths, Pointers, Number, Truth, Null, Function, Negate, Arithmetic, Compare}
 use Rattle.vf_meaning.specs.Valuations.{Valuation}
 use Rattle.vf_meaning.specs.Assertions.{Environment}
 use Rattle.vf_rules.specs.Terms.{Term}
-use Rattle.vf_rules.specs.States.{Fact, Holds, OfSort, SymbolicState, Entails, value_in}
-use Rattle.vf_rules.specs.Types.{is_bool, IsOfType, facts_of_integer, facts_of_type, type_of_field}
+use Rattle.vf_rules.specs.States.{Fact, Holds, OfSort, value_in}
+use Rattle.vf_rules.specs.Types.{is_bool, IsOfType, facts_of_type}
 use Rattle.vf_rules.specs.Consume.{EntailsAll}
 use Rattle.vf_rules.specs.Evaluate.{IsInRange, IsNumber, MayApply, Evaluates, EvaluatesAll, IsOfC}
 use Rattle.vf_rules.specs.Accept.{facts_of_types}
-use Rattle.vf_rules.specs.Ranges.{LocalsTyped, IsTypedState}
+use Rattle.vf_rules.specs.Ranges.{LocalsTyped}
 use Rattle.vf_rules.proofs.Produces.{type_met}
 use Rattle.vf_rules.proofs.Ranges.{ranges_widen}
-use Rattle.vf_rule_laws.specs.Typing.{IsPointerType, FitsInto, HasType, HaveTypes, HasNumberType, HasValueType, IsTypedStep}
-use Rattle.vf_rule_laws.specs.Asked.{IsAsked, IsConverted, EvaluatesAsking, MeetsTypes}
+use Rattle.vf_rule_laws.specs.Typing.{IsPointerType, FitsInto, HasType, HaveTypes, HasNumberType, HasValueType}
+use Rattle.vf_rule_laws.specs.Asked.{IsAsked, IsConverted, EvaluatesAsking}
 use Rattle.vf_rule_laws.specs.TypedLaws.{TypedExpressionsEvaluate, StepsMeetTypes}
 use Rattle.vf_rule_laws.proofs.Paths.{all_by, all_joined}
 use Rattle.vf_rule_laws.proofs.Quotients.{quotient_in_range, remainder_in_range}

@@ -1,5 +1,5 @@
 -- What has to be asked where states are typed: ranges and divisors alone; and what of types follows without being asked.
-use Rattle.std.specs.Prelude.{◌≡◌, ◌≢◌, ◌⊎◌, ℕ, false, ◌≤ℤ◌, List, slice_get, Option, Some, None}
+use Rattle.std.specs.Prelude.{◌≡◌, ◌≢◌, ◌⊎◌, false, ◌≤ℤ◌, List, slice_get, Option, Some}
 use Rattle.vf_base.specs.declared.int_type.IntType.{IntType}
 use Rattle.vf_base.specs.declared.int_type.IntType.TheVariants as types
 use Rattle.vf_tree.specs.Core.{ArithmeticOperator, Divide, Remainder, TypeTree, Void, Integer, ExpressionTree, Read, Signature, StepTree, Store, Offset, LoadAt, StoreAt, AllocateInts, Call, CallPointer, If, Return, FunctionTree, ProgramTree, LessEqual}

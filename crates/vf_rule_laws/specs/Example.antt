@@ -1,5 +1,5 @@
 -- Examples of the laws: a function that halves a number, a switch over an option in a program of two units, and a chunk of a predicate value.
-use Rattle.std.specs.Prelude.{◌≡◌, ℕ, pos, true, false, cond, List, [], ◌∷◌, Option, Some, None, codes}
+use Rattle.std.specs.Prelude.{pos, true, false, cond, List, [], ◌∷◌, Option, Some, None, codes}
 use Rattle.vf_base.specs.declared.place.Place.{Place}
 use Rattle.vf_base.specs.declared.int_type.IntType.TheVariants as types
 use Rattle.vf_tree.specs.Core.{Identity, Integer, Divide, ExpressionTree, Read, StepTree, Set, Return, FunctionTree, ProgramTree, LessEqual}
@@ -19,7 +19,7 @@ use Rattle.vf_rules.specs.Evaluate.{Evaluates}
 use Rattle.vf_rules.specs.Arrays.{row_chunk}
 use Rattle.vf_rules.specs.Accept.{with_local, facts_of_result, beginning, Accepts}
 use Rattle.vf_rules.specs.Ranges.{IsTypedState}
-use Rattle.vf_rule_laws.specs.Typing.{HasType, IsTypedFunction}
+use Rattle.vf_rule_laws.specs.Typing.{IsTypedFunction}
 use Rattle.vf_rule_laws.specs.Asked.{EvaluatesAsking}
 use Rattle.vf_rule_laws.specs.Leading.{StepLeads}
 use Rattle.vf_rule_laws.specs.SortedTerms.{IsOfSort}

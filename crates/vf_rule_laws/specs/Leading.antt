@@ -1,25 +1,24 @@
 -- From which states the rules lead to which.
-use Rattle.std.specs.Prelude.{◌≡◌, ℕ, pos, List, [], ◌∷◌, ◌++◌, slice_get, Option, Some, None}
+use Rattle.std.specs.Prelude.{◌≡◌, ℕ, List, [], ◌∷◌, ◌++◌, slice_get, Option, Some, None}
 use Rattle.vf_base.specs.declared.place.Place.{Place}
 use Rattle.vf_base.specs.declared.int_type.IntType.TheVariants as types
 use Rattle.vf_tree.specs.Core.{Identity, Field, TypeTree, Integer, ExpressionTree, Comparison, Set, Load, Store, Allocate, Free, Offset, LoadAt, StoreAt, AllocateInts, FreeInts, Call, If, FunctionTree, ProgramTree, NotEqual}
 use Rattle.vf_model.specs.Accesses.{field_count}
 use Rattle.vf_model.specs.PreludeFunctions.{PutChar, PrintInt, prelude_named}
 use Rattle.vf_meaning.specs.Ghost.{Sort, Pointers, Result, Null, Not, Compare, PointerSum}
-use Rattle.vf_meaning.specs.Ghost as ghost
 use Rattle.vf_meaning.specs.Assertions.{Assertion, ContractTree, Environment}
 use Rattle.vf_rules.specs.Terms.{Term, stored}
 use Rattle.vf_rules.specs.Terms as terms
-use Rattle.vf_rules.specs.States.{Fact, Holds, OfSort, CellOf, SymbolicChunk, SymbolicState, Shows, Entails, assuming, assuming_all, with_chunks}
+use Rattle.vf_rules.specs.States.{Fact, Holds, OfSort, CellOf, SymbolicChunk, SymbolicState, Shows, assuming, assuming_all, with_chunks}
 use Rattle.vf_rules.specs.Fresh.{symbol, IsNew}
-use Rattle.vf_rules.specs.Types.{type_of_field, facts_of_type}
+use Rattle.vf_rules.specs.Types.{facts_of_type}
 use Rattle.vf_rules.specs.Produce.{Produce}
-use Rattle.vf_rules.specs.Take.{same, Takes, Removes, Changes}
-use Rattle.vf_rules.specs.Consume.{EntailsAll, Consume}
+use Rattle.vf_rules.specs.Take.{Takes, Removes, Changes}
+use Rattle.vf_rules.specs.Consume.{Consume}
 use Rattle.vf_rules.specs.Laws.{Outcome, IsAmong}
 use Rattle.vf_rules.specs.Predicates.{Opens, Closes}
 use Rattle.vf_rules.specs.Evaluate.{Evaluates}
-use Rattle.vf_rules.specs.Arrays.{row_head, int_block_head, row_chunk, int_block_chunk, Arranges}
+use Rattle.vf_rules.specs.Arrays.{row_chunk, int_block_chunk, Arranges}
 use Rattle.vf_rules.specs.Accept.{all_of_it, with_local, receiving, cell_chunk, new_chunks, TakesFields, facts_of_result, call_store, AreFixed}
 
 -- the rule of a core step, other than a call of a function of the program or one by a contract, leads from a state at a step to a state at another one; of its premises those that types rest on

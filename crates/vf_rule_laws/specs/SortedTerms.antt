@@ -1,5 +1,5 @@
 -- Terms that have a sort by the sorts of their symbols and by what is declared.
-use Rattle.std.specs.Prelude.{◌≡◌, ◌⊎◌, ℕ, ℤ, Bool, List, [], ◌∷◌, ◌++◌, map, drop, Option, Some}
+use Rattle.std.specs.Prelude.{◌≡◌, ℕ, ℤ, Bool, List, [], ◌∷◌, ◌++◌, map, Option, Some}
 use Rattle.vf_tree.specs.Core.{Identity, ArithmeticOperator, Comparison}
 use Rattle.vf_model.specs.Values.{Dyadic, Values}
 use Rattle.vf_meaning.specs.Fractions.{IsPositive}

@@ -25,7 +25,7 @@ pub use covering_laws::{
 pub use examples::{half_is_typed, options_are_covered, valued_row_is_seen};
 pub use row_laws::valued_rows_show_lengths;
 pub use typed_laws::{
-    accepted_bodies_are_typed, bodies_begin_typed, calls_keep_types, ghost_outcomes_are_typed, ghost_steps_keep_types,
-    loop_heads_are_typed, preconditions_are_typed, quotients_are_in_range, sorted_terms_have_sorts,
-    steps_keep_types, steps_meet_types, typed_expressions_evaluate,
+    accepted_bodies_are_typed, bodies_begin_typed, calls_keep_types, ghost_outcomes_are_typed,
+    ghost_steps_keep_types, loop_heads_are_typed, preconditions_are_typed, quotients_are_in_range,
+    sorted_terms_have_sorts, steps_keep_types, steps_meet_types, typed_expressions_evaluate,
 };
