@@ -1,0 +1,13 @@
+pub mod Paths
+pub mod Quotients
+pub mod Typed
+pub mod Comes
+pub mod Steps
+pub mod Outcomes
+pub mod Ghost
+pub mod Beginnings
+pub mod SortedTerms
+pub mod Derivations
+pub mod Covering
+pub mod Rows
+pub mod Example

@@ -1,0 +1,9 @@
+pub mod Typing
+pub mod Asked
+pub mod Leading
+pub mod SortedTerms
+pub mod TypedLaws
+pub mod Derivations
+pub mod Covering
+pub mod Rows
+pub mod Example

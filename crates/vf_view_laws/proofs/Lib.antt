@@ -1,0 +1,4 @@
+pub mod Smaller
+pub mod Applied
+pub mod Order
+pub mod Example
