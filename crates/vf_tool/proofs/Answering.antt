@@ -2,20 +2,19 @@
 use Rattle.std.proofs.Common.{◌≡◌, inl, inr, refl, ◌∙◌, sym, ap, subst, ℕ, List, [], length, Bool, true, false, cond, Option, Some, None, IfSome, Err, IsErrOf}
 use Rattle.std.proofs.lemmas.List.{length-map}
 use Rattle.std.specs.FinMap.{get}
-use Rattle.vf_base.specs.Outside.{Contents, FileMap, IsAbsent, Rose}
+use Rattle.vf_base.specs.Outside.{Contents, IsAbsent, Rose}
 use Rattle.vf_model.specs.declared.words.Event.{Event}
-use Rattle.vf_snapshot.specs.declared.held.Held.{Held}
 use Rattle.vf_snapshot.specs.declared.held.Held.TheVariants as known
-use Rattle.vf_snapshot.specs.Holdings.{Holdings, IsHeldAt, IsKnown, known_of, number_in}
-use Rattle.vf_expand.specs.Worlds.{World, world, AllTold, IsToldBy, Reads, prelude_text}
+use Rattle.vf_snapshot.specs.Holdings.{Holdings, IsHeldAt, known_of, number_in}
+use Rattle.vf_expand.specs.Worlds.{World, AllTold, IsToldBy, Reads, prelude_text}
 use Rattle.vf_asking.specs.declared.journal.Journal.{Journal}
 use Rattle.vf_asking.specs.Journal.{Seen, seen, nothing_seen, asked_of}
 use Rattle.vf_asking.specs.Right.{AreRightFrom}
-use Rattle.vf_tool.specs.declared.status.Stop.{Stop}
-use Rattle.vf_tool.specs.declared.status.Stop.TheVariants as stops
+use Rattle.vf_report.specs.declared.status.Stop.{Stop}
+use Rattle.vf_report.specs.declared.status.Stop.TheVariants as stops
 use Rattle.vf_tool.specs.declared.verdict.Verdict.{Verdict}
 use Rattle.vf_tool.specs.Verdict.{JudgedBy}
-use Rattle.vf_tool.specs.Loaded.{HasSchedule}
+use Rattle.vf_report.specs.Loaded.{HasSchedule}
 use Rattle.vf_tool.specs.Run.{Answers, IsAnswer, IsLacking, text_of, is_accepted}
 
 -- a fresh journal has begun no unit, and has no entry

@@ -1,7 +1,6 @@
 -- What a file of the first form has is formed as the proof of safety wants it.
-use Rattle.std.proofs.Common.{◌≡◌, ◌∙◌, ℕ, zero, suc, ◌+◌, Bool, true, false, not, ◌&&◌, cond, List, [], ◌∷◌, ◌++◌, length, is_some, Option, Some, None, Result, Ok, Err, slice_get, refl, sym, ap, subst, ◌⊎◌, inl, inr, arith}
+use Rattle.std.proofs.Common.{◌≡◌, ℕ, zero, suc, ◌+◌, Bool, true, false, not, ◌&&◌, cond, List, [], ◌∷◌, ◌++◌, length, is_some, Option, Some, None, slice_get, refl, sym, ap, subst, ◌⊎◌, inl, inr, arith}
 use Rattle.vf_base.specs.declared.place.Place.{Place}
-use Rattle.vf_base.specs.declared.refusal.Refusal.{Refusal}
 use Rattle.vf_tree.specs.declared.unit.Expression.{Expression}
 use Rattle.vf_tree.specs.declared.unit.CoreStep.{CoreStep}
 use Rattle.vf_tree.specs.declared.unit.CoreStep.TheVariants as core_steps

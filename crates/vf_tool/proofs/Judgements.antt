@@ -1,5 +1,5 @@
 -- Verdicts from what reading, beginning and checking say.
-use Rattle.std.proofs.Common.{◌≡◌, ◌∙◌, inl, inr, refl, sym, ap, subst, List, [], ℕ, Option, Some, Result, Ok, Err}
+use Rattle.std.proofs.Common.{◌≡◌, ◌∙◌, inl, inr, refl, sym, ap, subst, List, [], ℕ, Result, Ok, Err}
 use Rattle.vf_base.specs.declared.refusal.Refusal.{Refusal}
 use Rattle.vf_base.specs.declared.refusal.RuleFault.TheVariants.{Refused as Blamed}
 use Rattle.vf_snapshot.specs.Holdings.{Holdings}

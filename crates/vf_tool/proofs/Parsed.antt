@@ -1,5 +1,5 @@
 -- What an answer of the parser says of a unit's items.
-use Rattle.std.proofs.Common.{◌≡◌, ◌∙◌, refl, sym, ap, subst, ℕ, List, [], Option, Some, None, Result, Ok, Err, IfOk}
+use Rattle.std.proofs.Common.{◌≡◌, refl, sym, ap, subst, ℕ, List, Option, Some, None, Result, Ok, Err, IfOk}
 use Rattle.vf_base.specs.declared.memory.Memory.{Memory}
 use Rattle.vf_base.specs.declared.place.Place.{Place}
 use Rattle.vf_base.specs.declared.rule.Rule.TheVariants.{Syntax, Depth, Unsupported}

@@ -1,14 +1,12 @@
 -- Items that went through the phases.
-use Rattle.std.proofs.Common.{◌≡◌, sym, subst, ℕ, List, Option, Result, Ok, Err, IfOk}
+use Rattle.std.proofs.Common.{◌≡◌, sym, subst, ℕ, List, Result, Ok, Err, IfOk}
 use Rattle.vf_base.specs.declared.memory.Memory.{Memory}
 use Rattle.vf_base.specs.declared.refusal.Refusal.{Refusal}
-use Rattle.vf_base.specs.declared.refusal.RuleFault.{RuleFault}
 use Rattle.vf_base.specs.declared.refusal.RuleFault.TheVariants as faults
 use Rattle.vf_snapshot.specs.Holdings.{Holdings}
 use Rattle.vf_preproc.specs.UnitText.{Text_of_unit}
 use Rattle.vf_declared.specs.declared.scope.Scope.{Scope}
 use Rattle.vf_syntax.specs.declared.item.Item.{Item}
-use Rattle.vf_tree.specs.declared.unit.Core.{Core}
 use Rattle.vf_first.specs.FirstForm.{first_form}
 use Rattle.vf_phases.specs.Phases.{IsPhased}
 use Rattle.vf_tool.specs.declared.reading.Reading.{Reading}

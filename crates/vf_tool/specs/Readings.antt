@@ -1,12 +1,11 @@
 -- What a file reads as: the core of its unit, or its first refusal.
-use Rattle.std.specs.Prelude.{◌≡◌, ℕ, List, slice_get, Option, Some, None, Result, Ok, Err}
+use Rattle.std.specs.Prelude.{◌≡◌, ℕ, List, Option, Some, None, Result, Ok, Err}
 use Rattle.vf_base.specs.declared.place.Place.{Place}
 use Rattle.vf_base.specs.declared.rule.Rule.{Rule}
 use Rattle.vf_base.specs.declared.rule.Rule.TheVariants.{Syntax, Depth, Unsupported, Contract as ContractRule}
 use Rattle.vf_base.specs.declared.refusal.Refusal.{Refusal}
 use Rattle.vf_base.specs.declared.refusal.Shown.TheVariants.{Nothing}
 use Rattle.vf_lexer.specs.declared.token.Token.{Token}
-use Rattle.vf_snapshot.specs.declared.held.Held.{Held}
 use Rattle.vf_snapshot.specs.Holdings.{Holdings}
 use Rattle.vf_preproc.specs.Directives.{Fault, Refused}
 use Rattle.vf_preproc.specs.UnitText.{Library, Text_of_unit}
@@ -107,12 +106,3 @@ refused parse_faults.Memory = None
 abbrev pub result_of : Reading → Result Core Refusal
 result_of (readings.Core core) = Ok core
 result_of (readings.Refused refusal) = Err refusal
-
--- the path of an entry, or this one where there is none
-abbrev pub path_or : List ℕ → Option (List ℕ × Held) → List ℕ
-path_or path None = path
-path_or path (Some entry) = entry.0
-
--- the path of the file with a number, and the named file's where no file has it
-abbrev pub path_in : Holdings → List ℕ → ℕ → List ℕ
-path_in held path number = path_or path (slice_get held number)

@@ -11,7 +11,6 @@ ghost use Rattle.vf_expand.specs.Wholes.{text_of};
 ghost use Rattle.vf_tool.specs.Readings.{ItemsRead, ReadsAs, UnitReads, core_or, items_of, not_formed, refusal_at, refused, result_of, unsupported};
 ghost use Rattle.vf_first.specs.FirstForm.{first_form};
 
-use crate::status::Stop;
 use std::alloc::Global;
 use vf_base::{Files, Memory, Place, Refusal, Rule, RuleFault, Shown};
 use vf_contractless::missing_contract;
@@ -21,6 +20,7 @@ use vf_parse_c::whole::parse;
 use vf_parse_real::fault::ParseFault;
 use vf_phases::check_names;
 use vf_preproc::ExpandFault;
+use vf_report::Stop;
 use vf_snapshot::Snapshot;
 use vf_syntax::item::Unit;
 use vf_tree::Core;
