@@ -5,7 +5,7 @@
 //! says why.
 #![tactic(auto)]
 
-ghost use Rattle.vf_tool.specs.Status.{CanCome};
+ghost use Rattle.vf_report.specs.Status.{CanCome};
 
 use std::alloc::Global;
 use std::process::ExitCode;
@@ -14,6 +14,13 @@ use std::{env, io};
 use vf_asking::Journal;
 use vf_base::{HostFiles, HostSink};
 use vf_tool::{Status, run_words};
+
+/// The words that each command takes.
+const USAGE: &str = "usage: vf run SCHEDULE FILE.c
+       vf try SCHEDULE FILE.c..
+       vf trace SCHEDULE FILE.c..
+       vf link MANIFEST.vfmanifest..
+       vf upgrade MANIFEST.vfmanifest";
 
 fn main(rt: HostRuntime) -> ExitCode {
     let status = answer(&rt);
@@ -57,13 +64,13 @@ fn status_of_words(error: &io::Error) -> Status
 fn cause_of(status: Status) -> Option<&'static str> {
     match status {
         Status::Done | Status::Refused | Status::LinkRefused | Status::RunFault => None,
-        Status::Usage => Some("usage: vf run SCHEDULE FILE.c"),
+        Status::Usage => Some(USAGE),
         Status::ReadFault => Some("a file could not be read"),
-        Status::WriteFault => Some("standard output could not be written"),
+        Status::WriteFault => Some("standard output or a manifest could not be written"),
         Status::Memory => Some("there is no memory left"),
         Status::Capacity => Some("a step of the run needs more than the machine has"),
         Status::Missing => Some("a file is missing"),
-        Status::Unreadable => Some("the schedule cannot be read"),
+        Status::Unreadable => Some("a schedule or a manifest cannot be read"),
         Status::CertRefused => Some("the certificate is refused"),
     }
 }

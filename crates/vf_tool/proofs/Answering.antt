@@ -11,11 +11,11 @@ use Rattle.vf_expand.specs.Worlds.{World, world, AllTold, IsToldBy, Reads, prelu
 use Rattle.vf_asking.specs.declared.journal.Journal.{Journal}
 use Rattle.vf_asking.specs.Journal.{Seen, seen, nothing_seen, asked_of}
 use Rattle.vf_asking.specs.Right.{AreRightFrom}
-use Rattle.vf_tool.specs.declared.status.Stop.{Stop}
-use Rattle.vf_tool.specs.declared.status.Stop.TheVariants as stops
+use Rattle.vf_report.specs.declared.status.Stop.{Stop}
+use Rattle.vf_report.specs.declared.status.Stop.TheVariants as stops
 use Rattle.vf_tool.specs.declared.verdict.Verdict.{Verdict}
 use Rattle.vf_tool.specs.Verdict.{JudgedBy}
-use Rattle.vf_tool.specs.Loaded.{HasSchedule}
+use Rattle.vf_report.specs.Loaded.{HasSchedule}
 use Rattle.vf_tool.specs.Run.{Answers, IsAnswer, IsLacking, text_of, is_accepted}
 
 -- a fresh journal has begun no unit, and has no entry

@@ -1,11 +1,9 @@
 pub mod Answering
-pub mod Asked
+pub mod Commanding
 pub mod Formed
 pub mod Judgements
-pub mod Loading
-pub mod Parsed
 pub mod Phased
 pub mod Readable
 pub mod Safety
-pub mod Scoped
+pub mod Statuses
 pub mod Telling

@@ -15,7 +15,6 @@ use Rattle.vf_sound.proofs.Accepted.{accepted_is_safe}
 use Rattle.vf_sound.proofs.Linking.{extends_itself, one_unit_links}
 use Rattle.vf_tool.specs.declared.verdict.Verdict.{Verdict}
 use Rattle.vf_tool.specs.declared.verdict.Verdict.TheVariants.{Accepted, Refused}
-use Rattle.vf_tool.specs.Words.{IsRun}
 use Rattle.vf_tool.specs.Verdict.{Judged, JudgedBy, IsAccepted}
 use Rattle.vf_tool.specs.Run.{IsAnswer}
 use Rattle.vf_tool.specs.Safe.{IsSafeLinked, WhereAccepted, IsSafeRun}
@@ -58,13 +57,10 @@ safe_held : (held : Holdings) (file : List ℕ) (t : Seen) (v : Verdict) → Are
 safe_held held file t v right judged = let l = told held in safe_verdict held l.0 file t v right (judged l.0 l.1)
 
 -- what a run answers by right answers is safe
-pub safe_run : (contents : Contents) (m : FileMap) (words : List (List ℕ)) (schedule file : List ℕ) (t : Seen) (accepted told : Bool) (text : List ℕ) → contents ≡ Some m → IsRun words schedule file → AreRightFrom 0 t → accepted ≡ told → IfSome contents (λ n. IsAnswer n schedule file t accepted text) → IsSafeRun m words t told
-safe_run contents m words schedule file t accepted told text is run right same h =
+pub safe_run : (contents : Contents) (m : FileMap) (schedule file : List ℕ) (t : Seen) (accepted told : Bool) (text : List ℕ) → contents ≡ Some m → AreRightFrom 0 t → accepted ≡ told → IfSome contents (λ n. IsAnswer n schedule file t accepted text) → IsSafeRun m file t told
+safe_run contents m schedule file t accepted told text is right same h =
     let a : IsAnswer m schedule file t accepted text = subst (λ (c : Contents). IfSome c (λ n. IsAnswer n schedule file t accepted text)) is h in
     record {
-      schedule = schedule;
-      file = file;
-      words_are = run;
       held = a.answers.held;
       told = a.answers.told;
       verdict = a.answers.verdict;

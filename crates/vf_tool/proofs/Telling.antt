@@ -1,6 +1,5 @@
 -- What the top call tells: one run in the words, one verdict by right answers.
 use Rattle.std.proofs.Common.{◌≡◌, inl, inr, ◌∙◌, refl, sym, ap, subst, ℕ, List, [], ◌∷◌, Bool, Some, IfSome, Ok, Err, arith}
-use Rattle.std.specs.Prelude.{codes}
 use Rattle.vf_base.specs.Outside.{Contents, FileMap}
 use Rattle.vf_base.specs.declared.refusal.Refusal.{Refusal}
 use Rattle.vf_tree.specs.declared.unit.Core.{Core}
@@ -12,29 +11,17 @@ use Rattle.vf_asking.proofs.Determined.{right_determined}
 use Rattle.vf_exec.specs.Main.{checks}
 use Rattle.vf_tool.specs.declared.verdict.Verdict.{Verdict}
 use Rattle.vf_tool.specs.declared.verdict.Verdict.TheVariants.{Accepted, Refused}
-use Rattle.vf_tool.specs.declared.status.Stop.{Stop}
-use Rattle.vf_tool.specs.declared.status.Stop.TheVariants as stops
-use Rattle.vf_tool.specs.Status.{status_of_stop}
+use Rattle.vf_report.specs.declared.status.Stop.{Stop}
+use Rattle.vf_report.specs.declared.status.Stop.TheVariants as stops
+use Rattle.vf_report.specs.Status.{status_of_stop}
 use Rattle.vf_snapshot.specs.Holdings.{Holdings}
-use Rattle.vf_snapshot.specs.Paths.{normal}
 use Rattle.vf_preproc.specs.UnitText.{Library}
 use Rattle.vf_expand.proofs.Telling.{told}
 use Rattle.vf_tool.specs.Readings.{ReadsAs}
 use Rattle.vf_tool.specs.Verdict.{Judged, JudgedBy}
-use Rattle.vf_tool.specs.Words.{IsRun}
-use Rattle.vf_tool.specs.Loaded.{IsSchedule, HasSchedule, HasNoSchedule}
+use Rattle.vf_report.specs.Loaded.{IsSchedule, HasSchedule, HasNoSchedule}
 use Rattle.vf_tool.proofs.Readable.{reads_one}
 use Rattle.vf_tool.specs.Run.{IsAnswer, Decides, is_accepted, status_of}
-
--- words are a run of one schedule and one file
-pub one_schedule : (words : List (List ℕ)) (s f s2 f2 : List ℕ) → IsRun words s f → IsRun words s2 f2 → s ≡ s2
-one_schedule words s f s2 f2 p q = let both : codes "run" ∷ s ∷ p.word ∷ [] ≡ codes "run" ∷ s2 ∷ q.word ∷ [] = sym p.words_are ∙ q.words_are in cc
-
-one_word : (words : List (List ℕ)) (s f s2 f2 : List ℕ) (p : IsRun words s f) (q : IsRun words s2 f2) → p.word ≡ q.word
-one_word words s f s2 f2 p q = let both : codes "run" ∷ s ∷ p.word ∷ [] ≡ codes "run" ∷ s2 ∷ q.word ∷ [] = sym p.words_are ∙ q.words_are in cc
-
-pub one_file : (words : List (List ℕ)) (s f s2 f2 : List ℕ) → IsRun words s f → IsRun words s2 f2 → f ≡ f2
-one_file words s f s2 f2 p q = p.file_is ∙ ap (normal []) (one_word words s f s2 f2 p q) ∙ sym q.file_is
 
 -- an acceptance and a refusal do not both follow by right answers
 both_ways : (core core2 : Core) (refusal : Refusal) (t u : Seen) → core ≡ core2 → Follows (checks core) (begun [] nothing_seen) t (Ok tt) → Follows (checks core2) (begun [] nothing_seen) u (Err refusal) → AreRightFrom 0 t → AreRightFrom 0 u → ⊥
@@ -63,8 +50,8 @@ one_held : (held : Holdings) (file : List ℕ) (t u : Seen) (v w : Verdict) → 
 one_held held file t u v w r q a b = let l = told held in one_verdict held l.0 file t u v w r q (a l.0 l.1) (b l.0 l.1)
 
 -- a told answer decides
-pub decides : (contents : Contents) (m : FileMap) (s f schedule file : List ℕ) (t : Seen) (accepted : Bool) (text : List ℕ) → contents ≡ Some m → f ≡ file → AreRightFrom 0 t → IfSome contents (λ n. IsAnswer n s f t accepted text) → Decides m file (status_of accepted)
-decides contents m s f schedule file t accepted text is same right h =
+pub decides : (contents : Contents) (m : FileMap) (s f file : List ℕ) (t : Seen) (accepted : Bool) (text : List ℕ) → contents ≡ Some m → f ≡ file → AreRightFrom 0 t → IfSome contents (λ n. IsAnswer n s f t accepted text) → Decides m file (status_of accepted)
+decides contents m s f file t accepted text is same right h =
     let a : IsAnswer m s f t accepted text = subst (λ (c : Contents). IfSome c (λ n. IsAnswer n s f t accepted text)) is h in
     inr (a.answers.held, a.answers.told, λ u w r j. ap status_of (a.answers.accepted_is ∙ one_held a.answers.held f t u a.answers.verdict w right r a.answers.judged (subst (λ (x : List ℕ). JudgedBy a.answers.held x nothing_seen u w) (sym same) j)))
 

@@ -1,8 +1,6 @@
-pub mod Lines
-pub mod Loaded
+pub mod Commands
+pub mod Printed
 pub mod Readings
 pub mod Run
 pub mod Safe
-pub mod Status
 pub mod Verdict
-pub mod Words

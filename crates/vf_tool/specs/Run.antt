@@ -4,25 +4,17 @@ use Rattle.std.specs.FinMap.{get}
 use Rattle.vf_base.specs.Outside.{FileMap, Takes, TakesFront}
 use Rattle.vf_snapshot.specs.Holdings.{Holdings}
 use Rattle.vf_expand.specs.Worlds.{AllTold}
-use Rattle.vf_tree.specs.Core.{ProgramTree}
 use Rattle.vf_tree.specs.Shown.{program_of}
 use Rattle.vf_model.specs.declared.words.Event.{Event}
-use Rattle.vf_model.specs.Runs.{reach, outcome_of}
 use Rattle.vf_asking.specs.Journal.{Seen, nothing_seen}
 use Rattle.vf_asking.specs.Right.{AreRightFrom}
-use Rattle.vf_tool.specs.declared.status.Status.{Status}
-use Rattle.vf_tool.specs.declared.status.Status.TheVariants as statuses
+use Rattle.vf_report.specs.declared.status.Status.{Status}
+use Rattle.vf_report.specs.declared.status.Status.TheVariants as statuses
 use Rattle.vf_tool.specs.declared.verdict.Verdict.{Verdict}
 use Rattle.vf_tool.specs.declared.verdict.Verdict.TheVariants.{Accepted, Refused}
-use Rattle.vf_tool.specs.Words.{IsRun}
-use Rattle.vf_tool.specs.Lines.{accepted_line, refusal_line, linked_line, outcome_line, closed_output}
-use Rattle.vf_tool.specs.Loaded.{HasSchedule}
-use Rattle.vf_tool.specs.Readings.{path_in}
+use Rattle.vf_report.specs.Lines.{accepted_line, refusal_line, linked_line, run_lines, path_in}
+use Rattle.vf_report.specs.Loaded.{HasSchedule}
 use Rattle.vf_tool.specs.Verdict.{JudgedBy}
-
--- what a run of the program prints: its output, and how the run stands after the events
-abbrev pub run_lines : (ℕ → List ℕ) → ProgramTree → List Event → List ℕ
-run_lines path_of p events = closed_output (reach p events).output ++ outcome_line path_of (outcome_of p (reach p events))
 
 -- the text for a verdict of the file at a path, by what is held of the files: where the file is accepted it links by itself, and the plain reading of its text runs
 abbrev pub text_of : Holdings → List ℕ → List Event → Verdict → List ℕ
@@ -58,20 +50,14 @@ pub record IsAnswer (m : FileMap) (schedule file : List ℕ) (t : Seen) (accepte
 abbrev pub IsLacking : FileMap → List ℕ → List ℕ → Type 0
 IsLacking m schedule file = (get m schedule ≡ None) ⊎ (((events : List Event) × HasSchedule m schedule events) × (get m file ≡ None))
 
--- The words ask for a run, and its whole text was printed.
-pub record Prints (m : FileMap) (words : List (List ℕ)) (t : Seen) (old new : Option (List ℕ)) (accepted : Bool) : Type 0 where
-  pub schedule : List ℕ
-  pub file : List ℕ
-  pub words_are : IsRun words schedule file
+-- The whole text of a run was printed.
+pub record Prints (m : FileMap) (schedule file : List ℕ) (t : Seen) (old new : Option (List ℕ)) (accepted : Bool) : Type 0 where
   pub text : List ℕ
   pub answer : IsAnswer m schedule file t accepted text
   pub printed : Takes old new text
 
--- The words ask for a run, and a front of its text was printed.
-pub record BeginsToPrint (m : FileMap) (words : List (List ℕ)) (t : Seen) (old new : Option (List ℕ)) : Type 0 where
-  pub schedule : List ℕ
-  pub file : List ℕ
-  pub words_are : IsRun words schedule file
+-- A front of a run's text was printed.
+pub record BeginsToPrint (m : FileMap) (schedule file : List ℕ) (t : Seen) (old new : Option (List ℕ)) : Type 0 where
   pub accepted : Bool
   pub text : List ℕ
   pub answer : IsAnswer m schedule file t accepted text
@@ -91,11 +77,16 @@ OnStop statuses.WriteFault begins quiet = begins
 OnStop statuses.Memory begins quiet = begins ⊎ quiet
 OnStop _ begins quiet = quiet
 
--- the words ask for a run of files of which this holds
-abbrev pub OfRun : List (List ℕ) → (List ℕ → List ℕ → Type 0) → Type 0
-OfRun words P = (schedule file : List ℕ) × IsRun words schedule file × P schedule file
-
 -- The verdict of the file by what is held of the files, which is right, and by right answers, whichever they are, is the one that the status tells; or there was no memory.
 abbrev pub Decides : FileMap → List ℕ → Status → Type 0
 Decides m file status = (status ≡ statuses.Memory) ⊎ ((held : Holdings) × AllTold (Some m) held
     × ((t : Seen) (v : Verdict) → AreRightFrom 0 t → JudgedBy held file nothing_seen t v → status ≡ status_of (is_accepted v)))
+
+-- the statuses that can come of a run: there are no other units to link with, no faults in what is accepted, and no machine limits that this form's programs meet
+abbrev pub CanComeOfRun : Status → Type 0
+CanComeOfRun statuses.LinkRefused = ⊥
+CanComeOfRun statuses.RunFault = ⊥
+CanComeOfRun statuses.Capacity = ⊥
+CanComeOfRun statuses.CertRefused = ⊥
+CanComeOfRun statuses.Usage = ⊥
+CanComeOfRun _ = Unit {0}

@@ -13,7 +13,6 @@ use Rattle.vf_meaning.specs.Kept.{IsSafe, Kept}
 use Rattle.vf_sound.specs.Environment.{environment_of}
 use Rattle.vf_tool.specs.declared.verdict.Verdict.{Verdict}
 use Rattle.vf_tool.specs.declared.verdict.Verdict.TheVariants.{Accepted, Refused}
-use Rattle.vf_tool.specs.Words.{IsRun}
 use Rattle.vf_tool.specs.Verdict.{JudgedBy}
 use Rattle.vf_tool.specs.Run.{is_accepted}
 
@@ -29,11 +28,8 @@ abbrev pub WhereAccepted : Verdict → Type 0
 WhereAccepted (Accepted core) = IsSafeLinked (environment_of core ∷ []) (program_of core.plain)
 WhereAccepted (Refused refusal) = Unit {0}
 
--- The words ask for a run, the file has a verdict by what the files tell and by the questions and answers that a fresh journal gained, and what is accepted is safe.
-pub record IsSafeRun (m : FileMap) (words : List (List ℕ)) (t : Seen) (accepted : Bool) : Type 0 where
-  pub schedule : List ℕ
-  pub file : List ℕ
-  pub words_are : IsRun words schedule file
+-- The file has a verdict by what the files tell and by the questions and answers that a fresh journal gained, and what is accepted is safe.
+pub record IsSafeRun (m : FileMap) (file : List ℕ) (t : Seen) (accepted : Bool) : Type 0 where
   pub held : Holdings
   pub told : AllTold (Some m) held
   pub verdict : Verdict

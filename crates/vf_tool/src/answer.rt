@@ -8,15 +8,12 @@ ghost use Rattle.vf_machine.specs.Machine.{machine_program, machine_state};
 ghost use Rattle.vf_base.specs.Outside.{Rose, IsAbsent};
 ghost use Rattle.vf_asking.specs.Journal.{seen, nothing_seen};
 ghost use Rattle.vf_asking.specs.Right.{AreRightFrom};
-ghost use Rattle.vf_tool.specs.Loaded.{HasNoSchedule};
+ghost use Rattle.vf_report.specs.Loaded.{HasNoSchedule};
 ghost use Rattle.vf_snapshot.specs.Paths.{normal};
-ghost use Rattle.vf_tool.specs.Readings.{path_in};
-ghost use Rattle.vf_tool.specs.Words.{IsSourcePath};
-ghost use Rattle.vf_tool.specs.Run.{run_lines, text_of, is_accepted, Answers, IsAnswer, IsLacking};
+ghost use Rattle.vf_report.specs.Lines.{path_in, run_lines};
+ghost use Rattle.vf_words.specs.Words.{IsSourcePath};
+ghost use Rattle.vf_tool.specs.Run.{text_of, is_accepted, Answers, IsAnswer, IsLacking};
 
-use crate::lines::{push_accepted, push_linked, push_outcome, push_output, push_refusal};
-use crate::load::load_schedule;
-use crate::status::Stop;
 use crate::verdict::{Verdict, check_unit};
 use std::alloc::Global;
 use std::mem;
@@ -26,6 +23,9 @@ use vf_machine::{Machine, assemble_one};
 use vf_model::Event;
 use vf_preproc::path_text;
 use vf_prover::Prover;
+use vf_report::{
+    Stop, load_schedule, push_accepted, push_linked, push_outcome, push_output, push_refusal,
+};
 use vf_snapshot::{Snapshot, normal_path};
 use vf_tree::{Plain, erase};
 

@@ -1,26 +1,41 @@
 //! The top call.
 
-ghost use Rattle.std.specs.Prelude.{◌≡◌, ◌⊎◌, List, ℕ, Some, map, string_bytes};
-ghost use Rattle.vf_base.specs.Outside.{FileMap, Rose};
+ghost use Rattle.std.specs.Prelude.{◌≡◌, ◌⊎◌, List, ℕ, Some};
+ghost use Rattle.vf_base.specs.Outside.{ChangesAtMost, FileMap, Rose, Takes};
 ghost use Rattle.vf_model.specs.declared.words.Event.{Event};
 ghost use Rattle.vf_asking.specs.Journal.{seen, nothing_seen};
 ghost use Rattle.vf_asking.specs.Right.{AreRightFrom};
-ghost use Rattle.vf_tool.specs.Loaded.{HasSchedule, HasNoSchedule};
-ghost use Rattle.vf_tool.specs.Run.{Prints, BeginsToPrint, OnVerdict, OnStop, OfRun, IsLacking, Decides};
+ghost use Rattle.vf_words.specs.Commands.{texts};
+ghost use Rattle.vf_words.specs.Words.{AskNothing, IsRun, IsUpgrade};
+ghost use Rattle.vf_report.specs.Lines.{upgraded_line};
+ghost use Rattle.vf_report.specs.Loaded.{HasSchedule, HasNoSchedule};
+ghost use Rattle.vf_report.specs.Status.{CanCome};
+ghost use Rattle.vf_manifest_commands.specs.Manifests.{Upgrades};
+ghost use Rattle.vf_tool.specs.Run.{Prints, BeginsToPrint, CanComeOfRun, OnVerdict, OnStop, IsLacking, Decides};
 ghost use Rattle.vf_tool.specs.Safe.{IsSafeRun};
-ghost use Rattle.vf_tool.specs.Status.{CanCome};
-ghost use Rattle.vf_tool.specs.Words.{IsRun};
+ghost use Rattle.vf_tool.specs.Commands.{AsksAnswer, BeginsAnswer, CanComeOfUpgrade, HasNoReading, Lacks, OnAnswer, PrintsAnswer};
 
-use crate::answer::run_answer;
-use crate::status::Status;
-use crate::words::run_words_of;
+use crate::checked::print_run;
+use crate::printing::{print_answer, print_upgrade};
 use std::alloc::Global;
 use vf_asking::Journal;
-use vf_base::{Files, Sink, SinkFault, write_all};
+use vf_base::{Files, Sink};
+use vf_manifest_commands::{link_answer, upgrade_answer};
+use vf_report::Status;
+use vf_try::{Purpose, try_answer};
+use vf_words::{Command, command_of};
 
-/// Does what the words after the program's name ask for: `run`, the path of a schedule, and a word that
-/// means the path of a source file. The file is checked by itself, linked and run under the schedule, and what came of it
-/// is printed at the end. The journal is handed in fresh, and gains every question with its answer.
+/// Does what the words after the program's name ask for.
+///
+/// - `run`, the path of a schedule, and a word that means the path of a source file: the file is checked by itself, linked and
+///   run under the schedule. The journal is handed in fresh, and gains every question with its answer.
+/// - `try`, the path of a schedule, and words that mean paths of source files: these are read, linked and run under the schedule;
+///   nothing is checked of their annotations.
+/// - `trace`, with the same words: they are read and linked, and their run is searched for its first fault or race.
+/// - `link` and paths of manifests: these are linked.
+/// - `upgrade` and the path of a manifest: it is written again, in version 2.
+///
+/// What came of it is printed at the end.
 pub fn run_words<F: Files, S: Sink>(
     alloc: Global,
     words: &[String],
@@ -30,54 +45,72 @@ pub fn run_words<F: Files, S: Sink>(
 ) -> Status
     requires fresh { seen journal.old ≡ nothing_seen }
 
-    // Over files that are told: where the status is that of a verdict, the printed text is that of the
+    // Of a run, over files that are told: where the status is that of a verdict, the printed text is that of the
     // verdict which the rules come to with just the journal's answers, and of linking and the run.
-    ensures verdict { (m : FileMap) → F.contents files.old ≡ Some m → OnVerdict result (Prints m (map (λ w. string_bytes w) words.now) (seen journal.new) (S.taken out.old) (S.taken out.new)) }
+    ensures verdict { (m : FileMap) → F.contents files.old ≡ Some m → (schedule file : List ℕ) → IsRun (texts words.now) schedule file
+        → OnVerdict result (Prints m schedule file (seen journal.new) (S.taken out.old) (S.taken out.new)) }
 
     // Every answer in the journal is right.
     ensures right { AreRightFrom 0 (seen journal.new) }
 
-    // Over files that are told: where the status is that of a verdict, what is accepted and linked has no
+    // Of a run, over files that are told: where the status is that of a verdict, what is accepted and linked has no
     // fault of any thread and no race, whichever the events, and keeps its share-outs and contracts.
-    ensures safe { (m : FileMap) → F.contents files.old ≡ Some m → OnVerdict result (IsSafeRun m (map (λ w. string_bytes w) words.now) (seen journal.new)) }
+    ensures safe { (m : FileMap) → F.contents files.old ≡ Some m → (schedule file : List ℕ) → IsRun (texts words.now) schedule file
+        → OnVerdict result (IsSafeRun m file (seen journal.new)) }
 
-    // Else nothing is printed, but where the sink itself gave up: then a front of that text.
-    ensures printed { (m : FileMap) → F.contents files.old ≡ Some m → OnStop result (BeginsToPrint m (map (λ w. string_bytes w) words.now) (seen journal.new) (S.taken out.old) (S.taken out.new)) (S.taken out.new ≡ S.taken out.old) }
+    // Else nothing is printed of a run, but where the sink itself gave up: then a front of that text.
+    ensures printed { (m : FileMap) → F.contents files.old ≡ Some m → (schedule file : List ℕ) → IsRun (texts words.now) schedule file
+        → OnStop result (BeginsToPrint m schedule file (seen journal.new) (S.taken out.old) (S.taken out.new)) (S.taken out.new ≡ S.taken out.old) }
+
+    // Of a try, a trace and the linking of manifests, over files that are told: the printed text and the status are those
+    // of what the files read as, of linking by its definition, and of the machine's run of the linked program or of what is
+    // found in it; a front of that text where the sink gave up; and nothing for every other status.
+    ensures answer { (m : FileMap) → F.contents files.old ≡ Some m → AsksAnswer (texts words.now)
+        → OnAnswer result (PrintsAnswer m (texts words.now) (S.taken out.old) (S.taken out.new)) (BeginsAnswer m (texts words.now) (S.taken out.old) (S.taken out.new)) (S.taken out.new ≡ S.taken out.old) }
+
+    // A manifest that was written again has its text of version 2, and the line that says so was printed.
+    ensures upgraded { (m : FileMap) → F.contents files.old ≡ Some m → (manifest : List ℕ) → IsUpgrade (texts words.now) manifest → result ≡ Status.Done
+        → Upgrades m (F.contents files.new) manifest × Takes (S.taken out.old) (S.taken out.new) (upgraded_line manifest) }
     ensures quiet { (result ≡ Status.Usage) ⊎ ((result ≡ Status.ReadFault) ⊎ ((result ≡ Status.Missing) ⊎ (result ≡ Status.Unreadable))) → S.taken out.new ≡ S.taken out.old }
-    ensures files { F.contents files.new ≡ F.contents files.old }
+    ensures files { ((manifest : List ℕ) → IsUpgrade (texts words.now) manifest → ⊥) → F.contents files.new ≡ F.contents files.old }
+    ensures others { (manifest : List ℕ) → IsUpgrade (texts words.now) manifest → ChangesAtMost (F.contents files.old) (F.contents files.new) manifest }
 
     // When each status comes.
-    ensures usage { result ≡ Status.Usage → (schedule file : List ℕ) → IsRun (map (λ w. string_bytes w) words.now) schedule file → ⊥ }
-    ensures usage_of_others { ((schedule file : List ℕ) → IsRun (map (λ w. string_bytes w) words.now) schedule file → ⊥) → result ≡ Status.Usage }
+    ensures usage { result ≡ Status.Usage → AskNothing (texts words.now) }
+    ensures usage_of_others { AskNothing (texts words.now) → result ≡ Status.Usage }
     ensures read_fault { result ≡ Status.ReadFault → Rose (F.failures files.old) (F.failures files.new) }
-    ensures write_fault { result ≡ Status.WriteFault → Rose (S.failures out.old) (S.failures out.new) }
+    ensures write_fault { result ≡ Status.WriteFault → Rose (S.failures out.old) (S.failures out.new) ⊎ Rose (F.put_failures files.old) (F.put_failures files.new) }
     ensures missing { result ≡ Status.Missing → Rose (F.absences files.old) (F.absences files.new) }
-    ensures lacking { (m : FileMap) → F.contents files.old ≡ Some m → result ≡ Status.Missing → OfRun (map (λ w. string_bytes w) words.now) (IsLacking m) }
-    ensures unreadable { (m : FileMap) → F.contents files.old ≡ Some m → result ≡ Status.Unreadable → OfRun (map (λ w. string_bytes w) words.now) (λ schedule file. HasNoSchedule m schedule) }
+    ensures lacking { (m : FileMap) → F.contents files.old ≡ Some m → (schedule file : List ℕ) → IsRun (texts words.now) schedule file → result ≡ Status.Missing → IsLacking m schedule file }
+    ensures lacking_of_others { (m : FileMap) → F.contents files.old ≡ Some m → ((schedule file : List ℕ) → IsRun (texts words.now) schedule file → ⊥) → result ≡ Status.Missing → Lacks m (texts words.now) }
+    ensures unreadable { (m : FileMap) → F.contents files.old ≡ Some m → (schedule file : List ℕ) → IsRun (texts words.now) schedule file → result ≡ Status.Unreadable → HasNoSchedule m schedule }
+    ensures unreadable_of_others { (m : FileMap) → F.contents files.old ≡ Some m → ((schedule file : List ℕ) → IsRun (texts words.now) schedule file → ⊥) → result ≡ Status.Unreadable → HasNoReading m (texts words.now) }
     ensures never { CanCome result }
+    ensures never_of_run { (schedule file : List ℕ) → IsRun (texts words.now) schedule file → CanComeOfRun result }
+    ensures never_of_upgrade { (manifest : List ℕ) → IsUpgrade (texts words.now) manifest → CanComeOfUpgrade result }
 
     // Where the words are those of a run, no count rises, and the schedule reads, the file has a verdict
     // by what the files tell and by right answers, and the status tells it, or there was no memory.
-    ensures complete { (m : FileMap) → F.contents files.old ≡ Some m → (schedule file : List ℕ) → IsRun (map (λ w. string_bytes w) words.now) schedule file
+    ensures complete { (m : FileMap) → F.contents files.old ≡ Some m → (schedule file : List ℕ) → IsRun (texts words.now) schedule file
         → (Rose (F.failures files.old) (F.failures files.new) → ⊥) → (Rose (F.absences files.old) (F.absences files.new) → ⊥) → (Rose (S.failures out.old) (S.failures out.new) → ⊥)
         → (events : List Event) → HasSchedule m schedule events → Decides m file result }
 {
-    let run = match run_words_of(words) {
-        Some(run) => run,
-        None => return Status::Usage,
-    };
-    let answer = match run_answer(alloc, run.schedule, run.word, files, journal) {
-        Ok(answer) => answer,
-        Err(stop) => return stop.status(),
-    };
-    match write_all(out, answer.text.as_bytes()) {
-        Ok(()) => {}
-        Err(SinkFault::Failed) => return Status::WriteFault,
-        Err(SinkFault::Memory) => return Status::Memory,
-    }
-    if answer.accepted {
-        Status::Done
-    } else {
-        Status::Refused
+    match command_of(words) {
+        None => Status::Usage,
+        Some(Command::Run(run)) => {
+            print_run(alloc, run.schedule, run.word, files, out, journal)
+        },
+        Some(Command::Try(asked)) => {
+            let answer = try_answer(alloc, Purpose::Run, asked.schedule, asked.words, files);
+            print_answer(answer, out)
+        }
+        Some(Command::Trace(asked)) => {
+            let answer = try_answer(alloc, Purpose::Trace, asked.schedule, asked.words, files);
+            print_answer(answer, out)
+        }
+        Some(Command::Link(manifests)) => print_answer(link_answer(alloc, manifests, files), out),
+        Some(Command::Upgrade(manifest)) => {
+            print_upgrade(upgrade_answer(alloc, manifest, files), out)
+        }
     }
 }

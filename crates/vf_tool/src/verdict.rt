@@ -9,7 +9,7 @@ ghost use Rattle.vf_asking.specs.Journal.{seen};
 ghost use Rattle.vf_tool.specs.Verdict.{JudgedBy, Checked};
 
 use crate::reading::{Reading, read_file};
-use crate::status::Stop;
+use vf_report::Stop;
 use std::alloc::Global;
 use vf_asking::Asker;
 use vf_base::{Files, Memory, Refusal, RuleFault};

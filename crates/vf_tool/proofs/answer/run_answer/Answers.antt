@@ -1,5 +1,5 @@
 -- The path that a source word means is of ASCII.
-use Rattle.vf_tool.proofs.Scoped.{source_ascii}
+use Rattle.vf_words.proofs.Scoped.{source_ascii}
 use Rattle.vf_tool.proofs.answer.run_answer.Goals as goal
 
 pub path_text-file-requires : goal.path_text-file-requires

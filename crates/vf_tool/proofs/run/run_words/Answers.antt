@@ -1,50 +1,65 @@
--- The words are those of a run, and what comes of it is decided.
-use Rattle.std.proofs.Common.{ap, subst, Bool, true, false, Err}
-use Rattle.vf_tool.specs.Run.{Decides, status_of}
-use Rattle.vf_tool.proofs.Telling.{one_schedule, one_file, decides, decides_stop}
-use Rattle.vf_tool.proofs.Safety.{safe_run}
+-- What the words ask for is done, and what comes of it is told of them.
+use Rattle.std.proofs.Common.{◌≡◌, subst, List, ℕ, None}
+use Rattle.std.specs.FinMap.{get}
+use Rattle.vf_base.specs.Outside.{FileMap}
+use Rattle.vf_words.specs.Commands.{Asks, texts}
+use Rattle.vf_words.proofs.Alone.{one_file, one_schedule}
+use Rattle.vf_report.specs.Loaded.{HasNoManifest, HasSchedule}
+use Rattle.vf_manifest_commands.specs.Manifests.{HasUnreadable, LacksManifest}
+use Rattle.vf_tool.specs.Run.{Decides}
+use Rattle.vf_tool.specs.Commands as commands
+use Rattle.vf_tool.proofs.Commanding.{answered, link_answers, of_told}
 use Rattle.vf_tool.proofs.run.run_words.Goals as goal
 
 pub returns-in-None-clause-complete : goal.returns-in-None-clause-complete
-returns-in-None-clause-complete g c = λ m told s f run read missing write events has. absurd (c.in-None.ensures.none s f run)
+returns-in-None-clause-complete g c = λ m told s f run read missing write events has. absurd (c.in-None.ensures.none.run s f run)
 
-pub returns-in-Err-clause-usage_of_others : goal.returns-in-Err-clause-usage_of_others
-returns-in-Err-clause-usage_of_others g c = λ h. absurd (h _ _ c.in-Some.ensures.found)
+pub returns-in-Some-Run-clause-usage_of_others : goal.returns-in-Some-Run-clause-usage_of_others
+returns-in-Some-Run-clause-usage_of_others g c = λ nothing.
+    let asked = subst (Asks (texts c.args.words.now)) c.in-Some-Run.field-0-is c.in-Some-Run.ensures.found in absurd (nothing.run _ _ asked.0)
 
-pub returns-in-Err-Failed-clause-usage_of_others :
-    goal.returns-in-Err-Failed-clause-usage_of_others
-returns-in-Err-Failed-clause-usage_of_others g c = λ h. absurd (h _ _ c.in-Some.ensures.found)
+pub returns-in-Some-Run-clause-lacking_of_others :
+    goal.returns-in-Some-Run-clause-lacking_of_others
+returns-in-Some-Run-clause-lacking_of_others g c = λ m told no_run is.
+    let asked = subst (Asks (texts c.args.words.now)) c.in-Some-Run.field-0-is c.in-Some-Run.ensures.found in absurd (no_run _ _ asked.0)
 
-pub returns-in-Err-Memory-clause-usage_of_others :
-    goal.returns-in-Err-Memory-clause-usage_of_others
-returns-in-Err-Memory-clause-usage_of_others g c = λ h. absurd (h _ _ c.in-Some.ensures.found)
+pub returns-in-Some-Run-clause-unreadable_of_others :
+    goal.returns-in-Some-Run-clause-unreadable_of_others
+returns-in-Some-Run-clause-unreadable_of_others g c = λ m told no_run is.
+    let asked = subst (Asks (texts c.args.words.now)) c.in-Some-Run.field-0-is c.in-Some-Run.ensures.found in absurd (no_run _ _ asked.0)
 
-pub returns-then-answer-clause-usage_of_others : goal.returns-then-answer-clause-usage_of_others
-returns-then-answer-clause-usage_of_others g c = λ h. absurd (h _ _ c.in-Some.ensures.found)
+pub returns-in-Some-Run-clause-complete : goal.returns-in-Some-Run-clause-complete
+returns-in-Some-Run-clause-complete g c = λ m told s f run read missing write events has.
+    let asked = subst (Asks (texts c.args.words.now)) c.in-Some-Run.field-0-is c.in-Some-Run.ensures.found in
+    subst (λ (x : List ℕ). Decides m x c.print_run.result) (one_file (texts c.args.words.now) _ _ s f asked.0 run)
+    (c.print_run.ensures.complete m told read missing write events (subst (λ (x : List ℕ). HasSchedule m x events) (one_schedule (texts c.args.words.now) s f _ _ run asked.0) has))
 
-pub returns-clause-usage_of_others : goal.returns-clause-usage_of_others
-returns-clause-usage_of_others g c = λ h. absurd (h _ _ c.in-Some.ensures.found)
+pub returns-in-Some-Link-clause-answer : goal.returns-in-Some-Link-clause-answer
+returns-in-Some-Link-clause-answer g c = λ m told asks.
+    let asked = subst (Asks (texts c.args.words.now)) c.in-Some-Link.field-0-is c.in-Some-Link.ensures.found in
+    answered _ m (texts c.args.words.now) c.link_answer.result _ _ c.print_answer.result told c.link_answer.ensures.told
+    (link_answers _ (texts c.args.words.now) _ c.link_answer.result asked c.link_answer.ensures.answered) c.print_answer.ensures.printed
 
-pub returns-in-Err-clause-complete : goal.returns-in-Err-clause-complete
-returns-in-Err-clause-complete g c = λ m told s f run read missing write events has.
-    rw c.status.ensures
-    (decides_stop _ m _ s f events c.in-Err.stop told (one_schedule _ _ _ s f c.in-Some.ensures.found run) has
-    (λ e. read (c.in-Err.ensures.failed (ap Err e))) (λ e. missing (c.in-Err.ensures.missing (ap Err e))) (λ e. c.in-Err.ensures.unreadable (ap Err e)))
+pub returns-in-Some-Link-clause-lacking_of_others :
+    goal.returns-in-Some-Link-clause-lacking_of_others
+returns-in-Some-Link-clause-lacking_of_others g c = λ m told no_run is.
+    let asked = subst (Asks (texts c.args.words.now)) c.in-Some-Link.field-0-is c.in-Some-Link.ensures.found in
+    commands.Lacks.linked (texts c.in-Some-Link.manifests.now) asked (of_told (λ (n : FileMap). LacksManifest n (texts c.in-Some-Link.manifests.now)) _ m told (c.link_answer.ensures.lacking (c.print_answer.ensures.missing is)))
 
-pub returns-then-answer-clause-complete : goal.returns-then-answer-clause-complete
-returns-then-answer-clause-complete g c = λ m told s f run read missing write events has.
-    subst (λ (b : Bool). Decides m f (status_of b)) c.if-answer.true
-    (decides _ m _ _ s f _ c.in-Ok.answer.accepted c.in-Ok.answer.text told (one_file _ _ _ s f c.in-Some.ensures.found run) c.run_answer.ensures.right c.in-Ok.ensures.answered)
+pub returns-in-Some-Link-clause-unreadable_of_others :
+    goal.returns-in-Some-Link-clause-unreadable_of_others
+returns-in-Some-Link-clause-unreadable_of_others g c = λ m told no_run is.
+    let asked = subst (Asks (texts c.args.words.now)) c.in-Some-Link.field-0-is c.in-Some-Link.ensures.found in
+    commands.HasNoReading.linked (texts c.in-Some-Link.manifests.now) asked (of_told (λ (n : FileMap). HasUnreadable n (texts c.in-Some-Link.manifests.now)) _ m told (c.link_answer.ensures.unreadable (c.print_answer.ensures.unreadable is)))
 
-pub returns-clause-complete : goal.returns-clause-complete
-returns-clause-complete g c = λ m told s f run read missing write events has.
-    subst (λ (b : Bool). Decides m f (status_of b)) c.if-answer.false
-    (decides _ m _ _ s f _ c.in-Ok.answer.accepted c.in-Ok.answer.text told (one_file _ _ _ s f c.in-Some.ensures.found run) c.run_answer.ensures.right c.in-Ok.ensures.answered)
+pub returns-in-Some-Upgrade-clause-lacking_of_others :
+    goal.returns-in-Some-Upgrade-clause-lacking_of_others
+returns-in-Some-Upgrade-clause-lacking_of_others g c = λ m told no_run is.
+    let asked = subst (Asks (texts c.args.words.now)) c.in-Some-Upgrade.field-0-is c.in-Some-Upgrade.ensures.found in
+    commands.Lacks.upgraded c.in-Some-Upgrade.manifest.now asked (of_told (λ (n : FileMap). get n c.in-Some-Upgrade.manifest.now ≡ None) _ m told (c.upgrade_answer.ensures.lacking (c.print_upgrade.ensures.missing is)))
 
-pub returns-then-answer-clause-safe : goal.returns-then-answer-clause-safe
-returns-then-answer-clause-safe g c = λ m is.
-    safe_run _ m _ _ _ _ c.in-Ok.answer.accepted true c.in-Ok.answer.text is c.in-Some.ensures.found c.run_answer.ensures.right c.if-answer.true c.in-Ok.ensures.answered
-
-pub returns-clause-safe : goal.returns-clause-safe
-returns-clause-safe g c = λ m is.
-    safe_run _ m _ _ _ _ c.in-Ok.answer.accepted false c.in-Ok.answer.text is c.in-Some.ensures.found c.run_answer.ensures.right c.if-answer.false c.in-Ok.ensures.answered
+pub returns-in-Some-Upgrade-clause-unreadable_of_others :
+    goal.returns-in-Some-Upgrade-clause-unreadable_of_others
+returns-in-Some-Upgrade-clause-unreadable_of_others g c = λ m told no_run is.
+    let asked = subst (Asks (texts c.args.words.now)) c.in-Some-Upgrade.field-0-is c.in-Some-Upgrade.ensures.found in
+    commands.HasNoReading.upgraded c.in-Some-Upgrade.manifest.now asked (of_told (λ (n : FileMap). HasNoManifest n c.in-Some-Upgrade.manifest.now) _ m told (c.upgrade_answer.ensures.unreadable (c.print_upgrade.ensures.unreadable is)))

@@ -1,0 +1,10 @@
+pub mod Lists
+pub mod Finding
+pub mod Places
+pub mod Stated
+pub mod Leasts
+pub mod Marking
+pub mod Mains
+pub mod Failing
+pub mod Calling
+pub mod Refusing

@@ -1,0 +1,19 @@
+use Rattle.std.proofs.Common.{◌++◌, ap, ◌∙◌}
+use Rattle.vf_link.specs.Statements.{statements, subjects, contents}
+use Rattle.vf_link.proofs.Stated.{subjects_manifest, contents_manifest}
+use Rattle.vf_link.proofs.statement.Statements.push_all.Goals as goal
+
+pub loop-manifest-preserved : goal.loop-manifest-preserved
+loop-manifest-preserved c =
+    let was = c.args.self.now in
+    let old = c.loop-manifest.self in
+    let new = c.push_lines.new.self in
+    let m = c.manifest-item.result in
+    let e = c.in_ok-push_lines.ensures in
+    let lines = c.as_slice.ensures in
+    record {
+      subjects = subjects_manifest c.args.topic was.subjects.items old.subjects.items new.subjects.items c.args.manifests.now c.loop-manifest.manifest-index m c.loop-manifest-test.true c.manifest-item.is c.loop-manifest.invariant.subjects
+          (e.subjects ∙ ap (λ ls. old.subjects.items ++ subjects (statements c.args.topic ls)) lines);
+      contents = contents_manifest c.args.topic was.contents.items old.contents.items new.contents.items c.args.manifests.now c.loop-manifest.manifest-index m c.loop-manifest-test.true c.manifest-item.is c.loop-manifest.invariant.contents
+          (e.contents ∙ ap (λ ls. old.contents.items ++ contents (statements c.args.topic ls)) lines);
+    }

@@ -1,0 +1,5 @@
+pub mod Statements
+pub mod Least
+pub mod Refusals
+pub mod Linking
+pub mod Marks

@@ -1,0 +1,115 @@
+//! Whether what is required is provided, and as it is required.
+
+ghost use Rattle.std.specs.Prelude.{◌≡◌, ◌<◌, ◌↔◌, List, IsTrue, IfOk, map, length};
+ghost use Rattle.vf_manifest.specs.declared.line.Line as declared_line;
+ghost use Rattle.vf_link.specs.Statements.{all_lines, place};
+ghost use Rattle.vf_link.specs.Least.{IsLeastOf, HasNone};
+ghost use Rattle.vf_link.specs.Linking.{IsUnmet, HasOtherSignature, IsProvidedTwice, agree};
+ghost use Rattle.vf_link.specs.Marks.{Marks, IsNoneOf, DisagreesWith, Meets};
+
+use crate::firsts::firsts;
+use crate::least::least_marked;
+use crate::statement::{Statements, Topic, stated};
+use std::alloc::Global;
+use vf_base::{Memory, Text};
+use vf_manifest::Manifest;
+
+/// What is provided, and behind it what is required, each with its signature.
+#[derive(Drop)]
+pub struct Requirements {
+    statements: Statements,
+    /// How many identities are provided.
+    provided: usize,
+    /// For each identity the place where it is mentioned first.
+    firsts: Vec<usize>,
+}
+
+/// Whether two signatures agree: they are the same, or one is not told.
+fn agree(first: &Text, second: &Text) -> bool
+    ensures { result ≡ agree first.now second.now }
+{
+    first.has_bytes(b"?") || second.has_bytes(b"?") || first.same(second)
+}
+
+impl Requirements {
+    /// What some manifests provide and require.
+    pub fn new(alloc: Global, manifests: &[Manifest]) -> Result<Requirements, Memory>
+        ensures { IfOk result (λ r. Meets (all_lines manifests.now) r) }
+    {
+        let mut statements = stated(alloc, Topic::Provided, manifests)?;
+        let provided = statements.subjects.len();
+        statements.push_all(alloc, Topic::Required, manifests)?;
+        let firsts = firsts(alloc, statements.subjects.as_slice())?;
+        Ok(Requirements {
+            statements,
+            provided,
+            firsts,
+        })
+    }
+
+    /// Marks the identities that are not provided.
+    fn mark_unmet(&self, alloc: Global) -> Result<Vec<bool>, Memory>
+        requires { self.now.firsts.items ≡ map (place self.now.statements.subjects.items) self.now.statements.subjects.items }
+        ensures { IfOk result (λ m. Marks (length self.now.statements.subjects.items) m.items
+            (IsNoneOf self.now.provided self.now.statements.subjects.items)) }
+    {
+        let mut marks = Vec::with_capacity(alloc, self.firsts.len())?;
+        for at in 0..self.firsts.len() {
+            marks.push(self.provided <= self.firsts[at])?;
+        }
+        Ok(marks)
+    }
+
+    /// The least identity that is required and not provided.
+    pub fn least_unmet(&self, alloc: Global) -> Result<Option<Text>, Memory>
+        requires { self.now.firsts.items ≡ map (place self.now.statements.subjects.items) self.now.statements.subjects.items }
+        ensures { IfOk result (λ x. (lines : List declared_line.Line) → Meets lines self.now → IsLeastOf (IsUnmet lines) x) }
+    {
+        let marks = self.mark_unmet(alloc)?;
+        let subjects = self.statements.subjects.as_slice();
+        least_marked(alloc, Topic::Required, subjects, marks.as_slice())
+    }
+
+    /// Whether the identity at an index is required with a signature that does not agree with the one that is provided.
+    fn disagrees(&self, at: usize) -> bool
+        requires firsts { self.now.firsts.items ≡ map (place self.now.statements.subjects.items) self.now.statements.subjects.items }
+        requires pairs { length self.now.statements.contents.items ≡ length self.now.statements.subjects.items }
+        requires within { at < length self.now.firsts.items }
+        ensures { IsTrue result ↔ DisagreesWith self.now.provided self.now.statements.subjects.items
+            self.now.statements.contents.items at }
+    {
+        let contents = self.statements.contents.as_slice();
+        let first = self.firsts[at];
+        if self.provided <= at && first < self.provided {
+            !agree(&contents[first], &contents[at])
+        } else {
+            false
+        }
+    }
+
+    /// Marks the identities that are required with a signature that does not agree with the one that is provided.
+    fn mark_disagreements(&self, alloc: Global) -> Result<Vec<bool>, Memory>
+        requires firsts { self.now.firsts.items ≡ map (place self.now.statements.subjects.items) self.now.statements.subjects.items }
+        requires pairs { length self.now.statements.contents.items ≡ length self.now.statements.subjects.items }
+        ensures { IfOk result (λ m. Marks (length self.now.statements.subjects.items) m.items
+            (DisagreesWith self.now.provided self.now.statements.subjects.items self.now.statements.contents.items)) }
+    {
+        let mut marks = Vec::with_capacity(alloc, self.firsts.len())?;
+        for at in 0..self.firsts.len() {
+            marks.push(self.disagrees(at))?;
+        }
+        Ok(marks)
+    }
+
+    /// The least identity that is required with a signature that does not agree with the one that is provided.
+    pub fn least_disagreeing(&self, alloc: Global) -> Result<Option<Text>, Memory>
+        requires firsts { self.now.firsts.items ≡ map (place self.now.statements.subjects.items) self.now.statements.subjects.items }
+        requires pairs { length self.now.statements.contents.items ≡ length self.now.statements.subjects.items }
+        ensures { IfOk result (λ x. (lines : List declared_line.Line) → Meets lines self.now
+            → HasNone (IsProvidedTwice lines) → IsLeastOf (HasOtherSignature lines) x) }
+    {
+        let marks = self.mark_disagreements(alloc)?;
+        let subjects = self.statements.subjects.as_slice();
+        least_marked(alloc, Topic::Required, subjects, marks.as_slice())
+    }
+}

@@ -1,0 +1,75 @@
+//! The items of a unit: its phases behind the tree, its steps, and its manifest.
+
+ghost use Rattle.std.specs.Prelude.{◌≡◌, MatchResult, None, Some};
+ghost use Rattle.vf_base.specs.declared.rule.Rule.TheVariants.{Order};
+ghost use Rattle.vf_order.specs.Statements.{first_unordered};
+ghost use Rattle.vf_expand.specs.Wholes.{text_of};
+ghost use Rattle.vf_phases.specs.Phases.{IsRefusedAt};
+ghost use Rattle.vf_module.specs.Readings.{AreRead, PassesLater};
+
+use crate::parsing::refusal_at;
+use std::alloc::Global;
+use vf_base::{Refusal, Rule, RuleFault};
+use vf_erase::erase_all;
+use vf_expand::UnitTokens;
+use vf_lowering::{LoweredUnit, lower_unit};
+use vf_manifest::Manifest;
+use vf_order::first_unordered;
+use vf_plain::plain_unit;
+use vf_program::PlainUnit;
+use vf_promises::promised;
+use vf_recursion::check_fixpoints;
+use vf_resolve::files_of;
+use vf_snapshot::Snapshot;
+use vf_syntax::item::Unit;
+
+/// A unit that passed its phases: its plain reading in the core of whole programs, and the lines of its manifest.
+#[derive(Debug, Drop)]
+pub struct ReadUnit {
+    pub plain: PlainUnit,
+    pub manifest: Manifest,
+}
+
+/// Whether the order of no two operands of a unit matters.
+fn check_order(unit: &Unit) -> Result<(), Refusal>
+    ensures { MatchResult result
+        (λ _. first_unordered unit.now.items ≡ None)
+        (IsRefusedAt Order (first_unordered unit.now.items)) }
+{
+    match first_unordered(unit) {
+        Some(place) => Err(refusal_at(Rule::Order, place)),
+        None => Ok(()),
+    }
+}
+
+/// Whether a unit passes the phases of fixpoints and of the order of operands.
+fn check_later(alloc: Global, unit: &Unit) -> Result<(), RuleFault>
+    ensures { PassesLater unit.now.items result }
+{
+    check_fixpoints(alloc, &unit.items)?;
+    check_order(unit)?;
+    Ok(())
+}
+
+/// The plain unit and the manifest of items that pass the phases.
+///
+/// # Errors
+///
+/// Refused in the first phase that refuses the unit: at the first fault of its names, types and sorts; else by rule 10 at
+/// the first fixpoint that has no value; else by rule 8 at the first place where the order of two operands matters.
+pub fn read_items(
+    alloc: Global,
+    snapshot: &Snapshot,
+    tokens: &UnitTokens,
+    unit: &Unit,
+) -> Result<ReadUnit, RuleFault>
+    ensures { AreRead snapshot.now (text_of tokens.now) unit.now.items result }
+{
+    let files = files_of(alloc, tokens, snapshot)?;
+    let LoweredUnit { scope, cores } = lower_unit(alloc, files, &unit.items)?;
+    check_later(alloc, unit)?;
+    let manifest = promised(alloc, snapshot, &scope, &tokens.headers, &unit.items)?;
+    let plains = erase_all(alloc, cores)?;
+    let plain = plain_unit(alloc, snapshot, &scope, &plains)?;
+    Ok(ReadUnit { plain, manifest })
+}
