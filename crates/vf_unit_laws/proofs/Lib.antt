@@ -1,0 +1,12 @@
+pub mod Calls
+pub mod Reading
+pub mod Cases
+pub mod Components
+pub mod Switched
+pub mod Bodies
+pub mod Integers
+pub mod Ascending
+pub mod Listed
+pub mod Units
+pub mod Laws
+pub mod Example
