@@ -44,12 +44,12 @@ use Rattle.vf_defining.specs.Symbols.{symbols_from, value_read, with_symbols}
 use Rattle.vf_defining.specs.Bodies.{case_read, cases_of, place_among, place_or_first, within_case}
 use Rattle.vf_defining.specs.Fixpoints.{Defines}
 use Rattle.vf_defining.specs.Fixpoints as defined
-use Rattle.vf_fixpoint.specs.Calls.{first_stray}
+use Rattle.vf_fixpoint.specs.Calls.{Recursion, first_stray}
 use Rattle.vf_fixpoint.specs.Cases.{components_of, constructors_of, first_stray_case, is_complete, parameter_of, refused_at, stray_in_case}
 use Rattle.vf_fixpoint.proofs.Straying.{strays_are_calls}
 use Rattle.vf_view_laws.specs.Order.{BodyGoesBack, IsSmallerIn, NoneIsSmaller, TermGoesBack}
 use Rattle.vf_fixpoint_laws.proofs.bodies.Resolved.{passing_settles}
-use Rattle.vf_fixpoint_laws.proofs.descending.Bodies.{complete_then, held, names_of, neither_there, scope_behind}
+use Rattle.vf_fixpoint_laws.proofs.descending.Bodies.{complete_then, names_of, neither_there, scope_behind}
 use Rattle.vf_fixpoint_laws.proofs.descending.Cases.{IsNamed, components_are, names_counted, names_free, stands_behind}
 use Rattle.vf_fixpoint_laws.proofs.descending.Lists.{none_some, number_below, some_same}
 use Rattle.vf_fixpoint_laws.proofs.descending.Meanings.{get_mapped}
@@ -135,6 +135,10 @@ module _ (earlier : List Identity) (own : Identity) (AreSmaller : Terms → Type
   setting_back s c k paths = record { locals = λ j. symbol_back k s.locals.meanings 0 j; result = (tt, tt); this_value = (tt, tt); thread = (tt, tt) }
 
 -- ---- bodies
+-- what the calls of a fixpoint with a name are held to in a case
+abbrev held : List ℕ → Option ℕ → List Name → Recursion
+held name o ns = record { name = name; parameter = o; components = ns }
+
 -- no call strays in one of some cases
 none_strays : (name : List ℕ) (o : Option ℕ) (cs : List FixpointCase) → first_stray_case name o cs ≡ None → (x : FixpointCase) → Contains cs x → stray_in_case name o x ≡ None
 none_strays name o [] e x (j, low, is) = absurd (omega (arith, low))

@@ -83,7 +83,7 @@ module _ (s : Scope) (c : Context) (f : Filling) (r : Recursion) (Of : GhostExpr
     sorted_calls (parenthesized h) a g = sorted_calls h a g
     sorted_calls (conditional test h m) a g =
         let b = before_meet s c f m a in
-        (passing_calls test (before s c f h b) g.0, (sorted_calls h b g.1, meeting_calls m a g.2))
+        (passing_calls test (before s c f h b) g.0, sorted_calls h b g.1, meeting_calls m a g.2)
     sorted_calls (prefixed p) a g = passing_calls p a g
     sorted_calls (chain h l) a g = (sorted_calls h (before_links s c f l a) g.0, links_calls l a g.1)
 
@@ -107,7 +107,7 @@ module _ (s : Scope) (c : Context) (f : Filling) (r : Recursion) (Of : GhostExpr
     passing_calls (null is) a g = tt
     passing_calls (choice is test x y) a g =
         let b = before_pass s c f y a in
-        (passing_calls test (before_pass s c f x b) g.0, (passing_calls x b g.1, passing_calls y a g.2))
+        (passing_calls test (before_pass s c f x b) g.0, passing_calls x b g.1, passing_calls y a g.2)
     passing_calls (any_wanted outside is h) a g = sorted_calls h a g
     passing_calls (as_wanted outside other h e) a g = sorted_calls h (e.kept f a) g
 

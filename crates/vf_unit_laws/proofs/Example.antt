@@ -23,7 +23,7 @@ use Rattle.vf_unit_laws.specs.Example.{LengthsStandInOrder, cons_ht, h, length_o
 use Rattle.vf_unit_laws.proofs.Laws.{accepted_fixpoints_stand_in_order, accepted_units_answers_entail, units_definitions_are_among}
 
 -- ---- the unit
-whole : Scope
+abbrev whole : Scope
 whole = lists_are_accepted.whole
 
 accepted : IsAcceptedUnit one_file list_paths list_items whole list_definitions

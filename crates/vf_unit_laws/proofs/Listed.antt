@@ -60,6 +60,10 @@ module _ (g : Signatures) (earlier : List Identity) (c : Identity) (m : ℕ) (b 
   abbrev of_kind : code.Kind → Body → definitions.Fixpoint
   of_kind k y = record { kind = k; identity = c; parameters = m; body = y }
 
+  -- the one for integers where the result is of a type parameter
+  abbrev taken : definitions.Fixpoint
+  taken = of_kind kinds.Integer (of_integers b)
+
   -- the fixpoint, and those of later definitions
   abbrev own : Written
   own = record { identity = c; sorts = (g c).sorts; result = (g c).result; body = b }
@@ -68,7 +72,7 @@ module _ (g : Signatures) (earlier : List Identity) (c : Identity) (m : ℕ) (b 
   whole = own ∷ written_behind g (c ∷ earlier) es
 
   stands : length (g c).sorts ≡ m → StandInOrder earlier whole
-  stands many = (new, (subst (λ (n : ℕ). BodyGoesBack earlier c n b) (sym many) back, rest.ordered))
+  stands many = (new, subst (λ (n : ℕ). BodyGoesBack earlier c n b) (sym many) back, rest.ordered)
 
   -- a definition is that of one of these
   abbrev IsTheirs : definitions.Fixpoint → Type 0
@@ -95,9 +99,6 @@ module _ (g : Signatures) (earlier : List Identity) (c : Identity) (m : ℕ) (b 
       (subst (λ (q : Bool). AreListed earlier (own ∷ (if q then written_behind g (c ∷ earlier) es else written_by g taken ∷ written_behind g (c ∷ c ∷ earlier) es)) (of_kind kinds.Other b ∷ taken ∷ es)) (sym (itself_there c earlier))
       (record { ordered = stands many; theirs = by }))
     where
-      taken : definitions.Fixpoint
-      taken = of_kind kinds.Integer (of_integers b)
-
       by : AreDefinitionsOf (of_kind kinds.Other b ∷ taken ∷ es) whole
       by f (zero, l, same) = subst IsTheirs same (own_theirs many kinds.Other b (sym (bodies_stay.others b)))
       by f (suc zero, l, same) = subst IsTheirs same (own_theirs many kinds.Integer (of_integers b) (taken_as b))

@@ -77,10 +77,10 @@ module _ (s : Scope) (plain : HavePlainNames s) (paths : List (List ℕ)) where
 
   module _ (xs : List Item) (each : EachIsWritten s paths xs) (many : HaveAsMany Bare xs) (kept : first_fault xs ≡ None) where
     -- items stand behind earlier ones: the identities of these have numbers below one, and each fixpoint of the unit is one of them or stands among the items
-    record AreNext (earlier : List Identity) (low : ℕ) (ys : List Item) : Type 0 where
-      before : (i : Identity) → Contains earlier i → ranks_of s i < low
-      rest : (y : Item) (v : Written) (m : ℕ) (h : declaration.Fixpoint) → Contains xs y → written_in y ≡ Some v → IsNumbered Bare v m h → Contains earlier (identity_at Bare paths v.name) ⊎ Contains ys y
-      there : (y : Item) → Contains ys y → Contains xs y
+    pub record AreNext (earlier : List Identity) (low : ℕ) (ys : List Item) : Type 0 where
+      pub before : (i : Identity) → Contains earlier i → ranks_of s i < low
+      pub rest : (y : Item) (v : Written) (m : ℕ) (h : declaration.Fixpoint) → Contains xs y → written_in y ≡ Some v → IsNumbered Bare v m h → Contains earlier (identity_at Bare paths v.name) ⊎ Contains ys y
+      pub there : (y : Item) → Contains ys y → Contains xs y
 
     -- the next item has no fixpoint
     none_next : {earlier : List Identity} {low next : ℕ} {y : Item} {ys : List Item} → low ≤ next → ((v : Written) (m : ℕ) (h : declaration.Fixpoint) → written_in y ≡ Some v → IsNumbered Bare v m h → ⊥) → AreNext earlier low (y ∷ ys) → AreNext earlier next ys
