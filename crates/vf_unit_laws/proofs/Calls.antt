@@ -1,5 +1,5 @@
 -- What is so of each call of a fixpoint in an expression that has a sort.
-use Rattle.std.proofs.Common.{◌≡◌, ℕ, Bool, true, false, List, length, Ok}
+use Rattle.std.proofs.Common.{◌≡◌, ℕ, Bool, true, List, length, Ok}
 use Rattle.std.specs.Prelude.{IsTrue}
 use Rattle.vf_base.specs.declared.place.Place.{Place}
 use Rattle.vf_sorts.specs.Sorts.{Sort}

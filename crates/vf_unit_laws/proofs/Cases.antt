@@ -1,5 +1,5 @@
 -- Each case of a body, where it stands among the cases of the text.
-use Rattle.std.proofs.Common.{◌≡◌, ℕ, zero, suc, List, [], ◌∷◌, ◌++◌, length, map, refl, sym, subst, ap, ap₂, ◌∙◌, append_assoc, append-nil, arith}
+use Rattle.std.proofs.Common.{◌≡◌, ℕ, zero, suc, List, [], ◌∷◌, ◌++◌, length, refl, sym, subst, ap, ap₂, ◌∙◌, append_assoc, append-nil, arith}
 use Rattle.std.specs.Prelude.{Contains}
 use Rattle.vf_sorts.specs.Sorts.{Sort}
 use Rattle.vf_sorts.specs.Unknowns.{AgreesAsTold, Known, filled, settling}
@@ -13,7 +13,7 @@ use Rattle.vf_binding.specs.declared.bound.Bound.{Bound}
 use Rattle.vf_binding.specs.Bound.{no_names, with_names}
 use Rattle.vf_asserting.specs.Cases.{NamesBind, none_bind, one_binds, names_or_none}
 use Rattle.vf_asserting.specs.Switches.{case_sorts}
-use Rattle.vf_equations.specs.Values.{CasesGive, no_cases, more_cases, a_case, ValuePasses, passes}
+use Rattle.vf_equations.specs.Values.{CasesGive, more_cases, a_case, ValuePasses, passes}
 use Rattle.vf_definitions.specs.declared.fixpoint.Case.{Case}
 use Rattle.vf_defining.specs.Symbols.{with_symbols}
 use Rattle.vf_defining.specs.Bodies.{case_names, case_of, case_read, cases_of, within_case}

@@ -1,5 +1,5 @@
 -- A component of what a fixpoint switches over is read as a name of the case, which no integer has.
-use Rattle.std.proofs.Common.{◌≡◌, ℕ, zero, suc, ◌+◌, Bool, true, false, List, [], ◌∷◌, length, slice_get, Option, Some, None, Result, Ok, refl, sym, ap, subst, ◌∙◌, arith}
+use Rattle.std.proofs.Common.{◌≡◌, ℕ, zero, suc, ◌+◌, Bool, true, false, List, [], ◌∷◌, length, slice_get, Option, Some, Result, Ok, refl, sym, ap, subst, ◌∙◌, arith}
 use Rattle.std.specs.Prelude.{◌<◌, ◌≤◌, IsTrue}
 use Rattle.vf_base.specs.declared.place.Place.{Place}
 use Rattle.vf_base.specs.declared.refusal.Refusal.{Refusal}
@@ -12,7 +12,6 @@ use Rattle.vf_sorts.specs.Sorts.{Sort, sort}
 use Rattle.vf_sorts.specs.Unknowns.{AgreesAsTold, Filling, Known, filled, instance, leaf, settling}
 use Rattle.vf_syntax.specs.declared.written.Name.{Name}
 use Rattle.vf_syntax.specs.GhostExprTree.{GhostExprTree, GhostExprTrees, no_ghost_expr, more_ghost_expr}
-use Rattle.vf_syntax.specs.GhostExprTree as tree
 use Rattle.vf_declared.specs.declared.locals.Local.{Local}
 use Rattle.vf_declared.specs.declared.scope.Scope.{Scope}
 use Rattle.vf_declared.specs.Scopes.{at_index}

@@ -2,7 +2,6 @@
 use Rattle.std.proofs.Common.{◌≡◌, zero, suc, [], ◌∷◌, Some, refl, ap, subst, arith}
 use Rattle.std.specs.Prelude.{List, pos, neg_ℤ, ◌≤ℤ◌, ◌+ℤ◌, Contains, IsTrue}
 use Rattle.std.proofs.lemmas.Int.{ints}
-use Rattle.vf_meaning.specs.Ghost.{ConstructorTree}
 use Rattle.vf_meaning.specs.Structural.{AreOrdered}
 use Rattle.vf_meaning.specs.Assertions.{Environment}
 use Rattle.vf_meaning.specs.Environments.{Extends, SomeUnit, IsLinked}
@@ -15,11 +14,11 @@ use Rattle.vf_definitions.specs.declared.fixpoint.Fixpoint as definitions
 use Rattle.vf_definitions.proofs.Soundness.{definitions_entail}
 use Rattle.vf_asking.specs.Right.{IsRight}
 use Rattle.vf_entailment.specs.Trees.{AreAmong}
-use Rattle.vf_fixpoint_laws.specs.descending.Example.{ListsAreAccepted, list_definitions, list_items, list_paths, one_file}
+use Rattle.vf_fixpoint_laws.specs.descending.Example.{list_definitions, list_items, list_paths, one_file}
 use Rattle.vf_fixpoint_laws.specs.met.Units.{IsAcceptedUnit}
 use Rattle.vf_fixpoint_laws.proofs.descending.Example.{lists_are_accepted}
 use Rattle.vf_unit_laws.specs.Fixpoints.{AreAsMany, HasFixpointsOf}
-use Rattle.vf_unit_laws.specs.Example.{LengthsStandInOrder, cons_ht, h, length_of, length_signature, list_question, list_signatures, list_unit, t, xs}
+use Rattle.vf_unit_laws.specs.Example.{LengthsStandInOrder, cons_ht, h, length_of, list_question, list_signatures, list_unit, t, xs}
 use Rattle.vf_unit_laws.proofs.Laws.{accepted_fixpoints_stand_in_order, accepted_units_answers_entail, units_definitions_are_among}
 
 -- ---- the unit

@@ -1,5 +1,5 @@
 -- The fixpoints of an accepted unit stand in the order of their declaration, so right answers of it entail wherever it is linked.
-use Rattle.std.specs.Prelude.{◌≡◌, ℕ, List, [], length, None, Ok}
+use Rattle.std.specs.Prelude.{ℕ, List, [], length}
 use Rattle.std.proofs.Common.{sym, subst}
 use Rattle.vf_meaning.specs.Structural.{AreOrdered}
 use Rattle.vf_syntax.specs.declared.item.Item.{Item}

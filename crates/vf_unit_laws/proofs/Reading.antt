@@ -4,7 +4,7 @@ use Rattle.std.specs.Prelude.{◌&&◌, ◌||◌, Contains, drop, if◌then◌el
 use Rattle.vf_base.specs.declared.place.Place.{Place}
 use Rattle.vf_tree.specs.Core.{Identity}
 use Rattle.vf_names.specs.Names.{number_of}
-use Rattle.vf_closure.specs.Terms.{Kind, Head, Term, Terms, term, no_terms, and_term}
+use Rattle.vf_closure.specs.Terms.{Kind, Head, Term, Terms, term, no_terms}
 use Rattle.vf_closure.specs.Terms as terms
 use Rattle.vf_formula.specs.Rows.{row}
 use Rattle.vf_sorts.specs.Sorts.{Sort}

@@ -1,5 +1,5 @@
 -- An example: the accepted unit of lists and their lengths, its environment, and a question that it asks.
-use Rattle.std.specs.Prelude.{◌≡◌, pos, cond, List, [], ◌∷◌, map, Option, Some, None, codes}
+use Rattle.std.specs.Prelude.{pos, cond, [], ◌∷◌, map, Option, Some, None, codes}
 use Rattle.vf_tree.specs.Core.{Identity}
 use Rattle.vf_model.specs.Values.{same_identity}
 use Rattle.vf_meaning.specs.Ghost.{Sort, Integers, Datatype, none, Numbered, ConstructorTree}

@@ -1,5 +1,5 @@
 -- The fixpoints of an accepted unit stand in the order of their declaration, so right answers of it entail wherever it is linked. Each law is the contract of a public function with an empty body.
-use Rattle.std.specs.Prelude.{◌≡◌, ℕ, List, [], map, Contains, None}
+use Rattle.std.specs.Prelude.{◌≡◌, ℕ, List, [], map, Contains}
 use Rattle.vf_meaning.specs.Structural.{AreOrdered}
 use Rattle.vf_meaning.specs.Assertions.{Environment}
 use Rattle.vf_meaning.specs.Environments.{IsLinked}
