@@ -19,7 +19,7 @@ use Rattle.vf_fixpoint_laws.specs.met.Units.{IsAcceptedUnit}
 use Rattle.vf_fixpoint_laws.proofs.descending.Example.{lists_are_accepted}
 use Rattle.vf_unit_laws.specs.Fixpoints.{AreAsMany, HasFixpointsOf}
 use Rattle.vf_unit_laws.specs.Example.{LengthsStandInOrder, cons_ht, h, length_of, list_question, list_signatures, list_unit, t, xs}
-use Rattle.vf_unit_laws.proofs.Laws.{accepted_fixpoints_stand_in_order, accepted_units_answers_entail, units_definitions_are_among}
+use Rattle.vf_unit_laws.proofs.Accepted.{accepted_fixpoints_stand_in_order, accepted_units_answers_entail, units_definitions_are_among}
 
 -- ---- the unit
 abbrev whole : Scope

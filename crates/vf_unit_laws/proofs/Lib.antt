@@ -8,5 +8,5 @@ pub mod Integers
 pub mod Ascending
 pub mod Listed
 pub mod Units
-pub mod Laws
+pub mod Accepted
 pub mod Example

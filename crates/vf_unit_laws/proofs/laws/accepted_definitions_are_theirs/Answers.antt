@@ -1,4 +1,4 @@
-use Rattle.vf_unit_laws.proofs.Laws.{accepted_definitions_are_theirs}
+use Rattle.vf_unit_laws.proofs.Accepted.{accepted_definitions_are_theirs}
 use Rattle.vf_unit_laws.proofs.laws.accepted_definitions_are_theirs.Goals as goal
 
 pub returns : goal.returns

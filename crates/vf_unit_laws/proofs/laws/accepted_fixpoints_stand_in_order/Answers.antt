@@ -1,4 +1,4 @@
-use Rattle.vf_unit_laws.proofs.Laws.{accepted_fixpoints_stand_in_order}
+use Rattle.vf_unit_laws.proofs.Accepted.{accepted_fixpoints_stand_in_order}
 use Rattle.vf_unit_laws.proofs.laws.accepted_fixpoints_stand_in_order.Goals as goal
 
 pub returns : goal.returns

@@ -1,4 +1,4 @@
-use Rattle.vf_unit_laws.proofs.Laws.{accepted_units_answers_entail}
+use Rattle.vf_unit_laws.proofs.Accepted.{accepted_units_answers_entail}
 use Rattle.vf_unit_laws.proofs.laws.accepted_units_answers_entail.Goals as goal
 
 pub returns : goal.returns

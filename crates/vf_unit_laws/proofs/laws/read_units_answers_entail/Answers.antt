@@ -1,4 +1,4 @@
-use Rattle.vf_unit_laws.proofs.Laws.{read_units_answers_entail}
+use Rattle.vf_unit_laws.proofs.Accepted.{read_units_answers_entail}
 use Rattle.vf_unit_laws.proofs.laws.read_units_answers_entail.Goals as goal
 
 pub returns : goal.returns

@@ -1,4 +1,4 @@
-use Rattle.vf_unit_laws.proofs.Laws.{read_units_are_accepted}
+use Rattle.vf_unit_laws.proofs.Accepted.{read_units_are_accepted}
 use Rattle.vf_unit_laws.proofs.laws.read_units_are_accepted.Goals as goal
 
 pub returns : goal.returns
