@@ -4,7 +4,7 @@ use Rattle.std.specs.Prelude.{◌||◌, Contains, if◌then◌else◌}
 use Rattle.vf_tree.specs.Core.{Identity}
 use Rattle.vf_model.specs.Values.{same_identity}
 use Rattle.vf_model.proofs.Equality.{identities_told}
-use Rattle.vf_closure.specs.Terms.{Integer, Other}
+use Rattle.vf_closure.specs.Terms.{Integer}
 use Rattle.vf_formula.specs.Heads.{shown_kind}
 use Rattle.vf_formula.specs.declared.head.Kind as code
 use Rattle.vf_formula.specs.declared.head.Kind.TheVariants as kinds

@@ -1,5 +1,5 @@
 -- The fixpoints of an accepted unit stand in the order of its items.
-use Rattle.std.proofs.Common.{◌≡◌, refl, sym, ap, subst, ◌∙◌, ◌⊎◌, inl, inr, ⊎_elim, ℕ, zero, suc, ◌≤◌, List, [], ◌∷◌, ◌++◌, length, take, map, slice_get, Option, Some, None, arith}
+use Rattle.std.proofs.Common.{◌≡◌, refl, sym, ap, subst, ◌∙◌, ◌⊎◌, inl, inr, ⊎_elim, ℕ, zero, suc, ◌≤◌, List, [], ◌∷◌, ◌++◌, length, take, slice_get, Option, Some, None, arith}
 use Rattle.std.specs.Prelude.{◌<◌, Contains}
 use Rattle.std.proofs.lemmas.List.{length-map}
 use Rattle.vf_tree.specs.Core.{Identity}
