@@ -17,6 +17,8 @@ use vf_tool::{Status, run_words};
 
 /// The words that each command takes.
 const USAGE: &str = "usage: vf run SCHEDULE FILE.c
+       vf try SCHEDULE FILE.c..
+       vf trace SCHEDULE FILE.c..
        vf link MANIFEST.vfmanifest..
        vf upgrade MANIFEST.vfmanifest";
 

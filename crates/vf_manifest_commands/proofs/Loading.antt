@@ -1,9 +1,8 @@
 -- Manifests that are read one after the other.
-use Rattle.std.proofs.Common.{◌≡◌, ◌∙◌, refl, sym, ap, subst, ℕ, ◌+◌, ◌<◌, List, [], ◌∷◌, ◌++◌, length, take, get_or, Contains, Some, None, IfSome, Err, IsErrOf, string_bytes, arith}
+use Rattle.std.proofs.Common.{◌≡◌, ◌∙◌, refl, sym, ap, subst, ℕ, ◌+◌, ◌<◌, List, [], ◌∷◌, ◌++◌, length, take, get_or, Contains, Some, None, IfSome, Err, IsErrOf, arith}
 use Rattle.std.specs.FinMap.{get}
-use Rattle.std.specs.declared.string.String.{String as OwnText}
-use Rattle.std.specs.declared.alloc.Global.{Global}
-use Rattle.std.proofs.lemmas.List.{take_more, map-append, length-map, get_or-map}
+use Rattle.std.specs.Borrow.{Bor}
+use Rattle.std.proofs.lemmas.List.{take_more, map-append, length-map, get_or-map, get_or_default}
 use Rattle.vf_base.specs.Outside.{Contents, FileMap, IsAbsent}
 use Rattle.vf_base.specs.declared.rule.Rule.{Rule}
 use Rattle.vf_base.specs.declared.refusal.Shown.{Shown}
@@ -14,7 +13,7 @@ use Rattle.vf_link.specs.declared.refusal.LinkRefusal.{LinkRefusal}
 use Rattle.vf_report.specs.declared.status.Status.TheVariants as statuses
 use Rattle.vf_report.specs.Lines.{unlinked_line}
 use Rattle.vf_manifest.specs.declared.line.Line.{Line}
-use Rattle.vf_words.specs.Commands.{texts}
+use Rattle.vf_words.specs.Positionals.{texts}
 use Rattle.vf_report.specs.declared.status.Stop.{Stop}
 use Rattle.vf_report.specs.declared.status.Stop.TheVariants as stops
 use Rattle.vf_report.specs.Loaded.{HasManifest, HasNoManifest}
@@ -26,42 +25,49 @@ behind : {m : FileMap} {paths : List (List ℕ)} {ms : List (List Line)} {path :
 behind manifests.none h = manifests.more h manifests.none
 behind (manifests.more k rest) h = manifests.more k (behind rest h)
 
+-- the word at a place that is within, as a loop reads it
+abbrev pub word : List (Bor (List ℕ)) → ℕ → Bor (List ℕ)
+word words k = get_or words k (record { ref_ptr = (0, 0); now = [] })
+
+pub word_at : (words : List (Bor (List ℕ))) (k : ℕ) → k < length words → get_or words k (word words k) ≡ word words k
+word_at words k low = get_or_default words k (word words k) (record { ref_ptr = (0, 0); now = [] }) low
+
 -- the texts of one word more
-texts_more : (words : List (OwnText Global)) (k : ℕ) (w : OwnText Global) → k < length words → get_or words k w ≡ w → texts (take (k + 1) words) ≡ texts (take k words) ++ string_bytes w ∷ []
+texts_more : (words : List (Bor (List ℕ))) (k : ℕ) (w : Bor (List ℕ)) → k < length words → get_or words k w ≡ w → texts (take (k + 1) words) ≡ texts (take k words) ++ w.now ∷ []
 texts_more words k w low is =
     ap texts (take_more words k w low)
-    ∙ map-append (λ (x : OwnText Global). string_bytes x) (take k words) (get_or words k w ∷ [])
-    ∙ ap (λ x. texts (take k words) ++ string_bytes x ∷ []) is
+    ∙ map-append (λ (x : Bor (List ℕ)). x.now) (take k words) (get_or words k w ∷ [])
+    ∙ ap (λ x. texts (take k words) ++ x.now ∷ []) is
 
 -- one manifest more was read
-pub loaded : (contents now : Contents) (words : List (OwnText Global)) (k : ℕ) (w : OwnText Global) (path : List ℕ) (ms new : List (List Line)) (lines : List Line) → k < length words → get_or words k w ≡ w → path ≡ string_bytes w → now ≡ contents → new ≡ ms ++ lines ∷ []
+pub loaded : (contents now : Contents) (words : List (Bor (List ℕ))) (k : ℕ) (w : Bor (List ℕ)) (path : List ℕ) (ms new : List (List Line)) (lines : List Line) → k < length words → get_or words k w ≡ w → path ≡ w.now → now ≡ contents → new ≡ ms ++ lines ∷ []
     → IfSome contents (λ m. HaveManifests m (texts (take k words)) ms) → IfSome now (λ m. HasManifest m path lines) → IfSome contents (λ m. HaveManifests m (texts (take (k + 1) words)) new)
 loaded None now words k w path ms new lines low is named same pushed h one = tt
 loaded (Some m) now words k w path ms new lines low is named same pushed h one =
     let told : HasManifest m path lines = subst (λ (c : Contents). IfSome c (λ n. HasManifest n path lines)) same one in
-    let all : HaveManifests m (texts (take k words) ++ string_bytes w ∷ []) (ms ++ lines ∷ []) = behind h (subst (λ p. HasManifest m p lines) named told) in
-    subst (λ t. HaveManifests m t new) (sym (texts_more words k w low is)) (subst (HaveManifests m (texts (take k words) ++ string_bytes w ∷ [])) (sym pushed) all)
+    let all : HaveManifests m (texts (take k words) ++ w.now ∷ []) (ms ++ lines ∷ []) = behind h (subst (λ p. HasManifest m p lines) named told) in
+    subst (λ t. HaveManifests m t new) (sym (texts_more words k w low is)) (subst (HaveManifests m (texts (take k words) ++ w.now ∷ [])) (sym pushed) all)
 
 -- a word is among the texts
-among : (words : List (OwnText Global)) (k : ℕ) (w : OwnText Global) → k < length words → get_or words k w ≡ w → Contains (texts words) (string_bytes w)
-among words k w low is = (k, omega (arith, low, length-map words (λ (x : OwnText Global). string_bytes x)), get_or-map (λ (x : OwnText Global). string_bytes x) words k w (string_bytes w) low ∙ ap (λ x. string_bytes x) is)
+among : (words : List (Bor (List ℕ))) (k : ℕ) (w : Bor (List ℕ)) → k < length words → get_or words k w ≡ w → Contains (texts words) (w.now)
+among words k w low is = (k, omega (arith, low, length-map words (λ (x : Bor (List ℕ)). x.now)), get_or-map (λ (x : Bor (List ℕ)). x.now) words k w (w.now) low ∙ ap (λ x. x.now) is)
 
 -- one file has no manifest
-pub unreadable : (contents now : Contents) (words : List (OwnText Global)) (k : ℕ) (w : OwnText Global) (path : List ℕ) → k < length words → get_or words k w ≡ w → path ≡ string_bytes w → now ≡ contents
+pub unreadable : (contents now : Contents) (words : List (Bor (List ℕ))) (k : ℕ) (w : Bor (List ℕ)) (path : List ℕ) → k < length words → get_or words k w ≡ w → path ≡ w.now → now ≡ contents
     → IfSome now (λ m. HasNoManifest m path) → IfSome contents (λ m. HasUnreadable m (texts words))
 unreadable None now words k w path low is named same h = tt
 unreadable (Some m) now words k w path low is named same h = record {
-  path = string_bytes w;
+  path = w.now;
   among = among words k w low is;
   fails = subst (HasNoManifest m) named (subst (λ (c : Contents). IfSome c (λ n. HasNoManifest n path)) same h);
 }
 
 -- one file is not there
-pub lacking : (contents now : Contents) (words : List (OwnText Global)) (k : ℕ) (w : OwnText Global) (path : List ℕ) → k < length words → get_or words k w ≡ w → path ≡ string_bytes w → now ≡ contents
+pub lacking : (contents now : Contents) (words : List (Bor (List ℕ))) (k : ℕ) (w : Bor (List ℕ)) (path : List ℕ) → k < length words → get_or words k w ≡ w → path ≡ w.now → now ≡ contents
     → IsAbsent now path → IfSome contents (λ m. LacksManifest m (texts words))
 lacking None now words k w path low is named same h = tt
 lacking (Some m) now words k w path low is named same h = record {
-  path = string_bytes w;
+  path = w.now;
   among = among words k w low is;
   fails = subst (λ p. get m p ≡ None) named (subst (λ (c : Contents). IsAbsent c path) same h);
 }

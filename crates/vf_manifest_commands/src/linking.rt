@@ -2,7 +2,7 @@
 
 ghost use Rattle.std.specs.Prelude.{◌≡◌, IfOk, IfSome, IsErrOf};
 ghost use Rattle.vf_base.specs.Outside.{Rose};
-ghost use Rattle.vf_words.specs.Commands.{texts};
+ghost use Rattle.vf_words.specs.Positionals.{texts};
 ghost use Rattle.vf_report.specs.Status.{IsTold};
 ghost use Rattle.vf_manifest_commands.specs.Manifests.{HasUnreadable, HaveManifests, IsLinkAnswer, LacksManifest, LinkPrints};
 
@@ -16,7 +16,7 @@ use vf_report::{Answered, Status, Stop, load_manifest, push_linked, push_unlinke
 fn load_manifests<F: Files>(
     alloc: Global,
     files: &mut F,
-    paths: &[String],
+    paths: &[&str],
 ) -> Result<Vec<Manifest>, Stop>
     ensures loaded { IfOk result (λ ms. IfSome (F.contents files.old) (λ m. HaveManifests m (texts paths.now) ms.items)) }
     ensures unreadable { IsErrOf result Stop.Unreadable → IfSome (F.contents files.old) (λ m. HasUnreadable m (texts paths.now)) }
@@ -27,7 +27,7 @@ fn load_manifests<F: Files>(
 {
     let mut manifests = Vec::new(alloc);
     for path in paths {
-        let manifest = match load_manifest(alloc, files, path.as_str()) {
+        let manifest = match load_manifest(alloc, files, *path) {
             Ok(manifest) => manifest,
             Err(stop) => return Err(stop),
         };
@@ -71,7 +71,7 @@ fn answer_of(alloc: Global, manifests: &[Manifest]) -> Result<Answered, Memory>
 /// Where a manifest is not there or could not be read, where a file has none, or where memory ran out.
 pub fn link_answer<F: Files>(
     alloc: Global,
-    paths: &[String],
+    paths: &[&str],
     files: &mut F,
 ) -> Result<Answered, Stop>
     ensures answered { IfOk result (λ a. IfSome (F.contents files.old) (λ m. IsLinkAnswer m (texts paths.now) a.status a.text)) }

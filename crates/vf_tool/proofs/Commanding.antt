@@ -7,7 +7,9 @@ use Rattle.vf_report.specs.declared.status.Status.TheVariants as statuses
 use Rattle.vf_report.specs.declared.status.Stop.{Stop}
 use Rattle.vf_report.specs.declared.status.Stop.TheVariants as stops
 use Rattle.vf_report.specs.Status.{IsTold, status_of_stop}
-use Rattle.vf_words.specs.Words.{IsLink}
+use Rattle.vf_words.specs.Words.{IsLink, IsTrace, IsTry}
+use Rattle.vf_try.specs.declared.purpose.Purpose.TheVariants.{Run, Trace}
+use Rattle.vf_try.specs.Answers as tries
 use Rattle.vf_manifest_commands.specs.Manifests.{IsLinkAnswer}
 use Rattle.vf_tool.specs.Commands.{Answers, BeginsAnswer, OnAnswer, PrintsAnswer}
 use Rattle.vf_tool.specs.Commands as commands
@@ -62,3 +64,17 @@ pub link_answers : (contents : Contents) (words manifests : List (List ℕ)) (r 
 link_answers contents words manifests (Err stop) asked h = tt
 link_answers None words manifests (Ok a) asked h = tt
 link_answers (Some m) words manifests (Ok a) asked h = commands.Answers.linked manifests asked h
+
+-- the answer for files that are tried
+pub tried_answers : (contents : Contents) (words : List (List ℕ)) (schedule : List ℕ) (files : List (List ℕ)) (r : Result Answered Stop) → IsTry words schedule files
+    → IfOk r (λ a. IfSome contents (λ m. tries.IsAnswer m Run schedule files a.status a.text)) → IfOk r (λ a. IfSome contents (λ n. Answers n words a.status a.text))
+tried_answers contents words schedule files (Err stop) asked h = tt
+tried_answers None words schedule files (Ok a) asked h = tt
+tried_answers (Some m) words schedule files (Ok a) asked h = commands.Answers.tried schedule files asked h
+
+-- the answer for files that are traced
+pub traced_answers : (contents : Contents) (words : List (List ℕ)) (schedule : List ℕ) (files : List (List ℕ)) (r : Result Answered Stop) → IsTrace words schedule files
+    → IfOk r (λ a. IfSome contents (λ m. tries.IsAnswer m Trace schedule files a.status a.text)) → IfOk r (λ a. IfSome contents (λ n. Answers n words a.status a.text))
+traced_answers contents words schedule files (Err stop) asked h = tt
+traced_answers None words schedule files (Ok a) asked h = tt
+traced_answers (Some m) words schedule files (Ok a) asked h = commands.Answers.traced schedule files asked h

@@ -2,7 +2,6 @@ pub mod Answering
 pub mod Commanding
 pub mod Formed
 pub mod Judgements
-pub mod Parsed
 pub mod Phased
 pub mod Readable
 pub mod Safety

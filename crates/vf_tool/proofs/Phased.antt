@@ -10,7 +10,8 @@ use Rattle.vf_syntax.specs.declared.item.Item.{Item}
 use Rattle.vf_first.specs.FirstForm.{first_form}
 use Rattle.vf_phases.specs.Phases.{IsPhased}
 use Rattle.vf_tool.specs.declared.reading.Reading.{Reading}
-use Rattle.vf_tool.specs.Readings.{ItemsRead, core_or, files_by, result_of}
+use Rattle.vf_module.specs.Readings.{files_by}
+use Rattle.vf_tool.specs.Readings.{ItemsRead, core_or, result_of}
 use Rattle.vf_tool.specs.Readings as readings
 
 -- items that pass read as their core, where they are of the first form

@@ -10,7 +10,8 @@ use Rattle.vf_first.specs.FirstForm.{first_form}
 use Rattle.vf_sound.specs.Formed.{IsFormed}
 use Rattle.vf_snapshot.specs.Holdings.{Holdings}
 use Rattle.vf_order_laws.proofs.determined.Phasing.{never_both, one_refusal}
-use Rattle.vf_tool.specs.Readings.{ItemsRead, ReadsAs, TextReads, UnitReads, core_or, items_of}
+use Rattle.vf_module.specs.Parsing.{items_of}
+use Rattle.vf_tool.specs.Readings.{ItemsRead, ReadsAs, TextReads, UnitReads, core_or}
 use Rattle.vf_tool.specs.Readings as readings
 use Rattle.vf_tool.proofs.Formed.{first_is_formed}
 

@@ -1,57 +1,22 @@
 -- What a file reads as: the core of its unit, or its first refusal.
 use Rattle.std.specs.Prelude.{◌≡◌, ℕ, List, Option, Some, None, Result, Ok, Err}
 use Rattle.vf_base.specs.declared.place.Place.{Place}
-use Rattle.vf_base.specs.declared.rule.Rule.{Rule}
-use Rattle.vf_base.specs.declared.rule.Rule.TheVariants.{Syntax, Depth, Unsupported, Contract as ContractRule}
+use Rattle.vf_base.specs.declared.rule.Rule.TheVariants.{Unsupported, Contract as ContractRule}
 use Rattle.vf_base.specs.declared.refusal.Refusal.{Refusal}
-use Rattle.vf_base.specs.declared.refusal.Shown.TheVariants.{Nothing}
-use Rattle.vf_lexer.specs.declared.token.Token.{Token}
 use Rattle.vf_snapshot.specs.Holdings.{Holdings}
 use Rattle.vf_preproc.specs.Directives.{Fault, Refused}
 use Rattle.vf_preproc.specs.UnitText.{Library, Text_of_unit}
 use Rattle.vf_expand.specs.Wholes.{text_of_unit}
-use Rattle.vf_expand.specs.declared.whole.UnitTokens.{UnitTokens}
 use Rattle.vf_declared.specs.declared.scope.Scope.{Scope}
 use Rattle.vf_syntax.specs.declared.item.Item.{Item}
-use Rattle.vf_cursor.specs.declared.fault.Fault.{Fault as ReadFault}
-use Rattle.vf_cursor.specs.declared.fault.Fault.TheVariants as read_faults
-use Rattle.vf_cursor.specs.Parsing.{Read}
-use Rattle.vf_parse_real.specs.declared.fault.ParseFault.{ParseFault}
-use Rattle.vf_parse_real.specs.declared.fault.ParseFault.TheVariants as parse_faults
-use Rattle.vf_parse_real.specs.Faults.{place_at}
-use Rattle.vf_parse_real.specs.Unsupported.{first_unsupported}
-use Rattle.vf_parse_whole.specs.Wholes.{whole_at}
 use Rattle.vf_tree.specs.declared.unit.Core.{Core}
-use Rattle.vf_resolve.specs.declared.files.Files.{Files}
-use Rattle.vf_resolve.specs.UnitFiles.{files_of}
 use Rattle.vf_phases.specs.Phases.{IsRefusedInPhases, PassesPhases}
 use Rattle.vf_first.specs.FirstForm.{first_form}
 use Rattle.vf_contractless.specs.Missing.{missing_contract}
+use Rattle.vf_module.specs.Parsing.{items_of, refusal_at}
+use Rattle.vf_module.specs.Readings.{files_by}
 use Rattle.vf_tool.specs.declared.reading.Reading.{Reading}
 use Rattle.vf_tool.specs.declared.reading.Reading.TheVariants as readings
-
--- a refusal by a rule at a place, which shows nothing beside them
-abbrev pub refusal_at : Rule → Place → Refusal
-refusal_at rule place = record { rule = rule; place = place; shown = Nothing }
-
--- where reading tokens to their end stops: a token that cannot stand there, or one that stands too deep
-abbrev pub refusal_of : Place → List Token → ReadFault → Refusal
-refusal_of end ts (read_faults.Syntax n) = refusal_at Syntax (place_at ts end n)
-refusal_of end ts (read_faults.Depth n) = refusal_at Depth (place_at ts end n)
-
--- what was read, or where reading stopped
-abbrev pub items_or : Place → List Token → Read (List Item) → Result (List Item) Refusal
-items_or end ts (Ok x) = Ok x.0
-items_or end ts (Err f) = Err (refusal_of end ts f)
-
--- the items of tokens, of which none is refused by name
-abbrev pub items_unless : Place → List Token → Option Place → Result (List Item) Refusal
-items_unless end ts (Some place) = Err (refusal_at Unsupported place)
-items_unless end ts None = items_or end ts (whole_at 128 ts)
-
--- the items of a unit by the whole grammar, nested at most 128 deep, or its first refusal
-abbrev pub items_of : Text_of_unit → Result (List Item) Refusal
-items_of unit = items_unless unit.end_of_file unit.tokens (first_unsupported unit.tokens)
 
 -- rule 11 at the first byte of a file
 abbrev pub unsupported : ℕ → Refusal
@@ -66,14 +31,6 @@ not_formed file None = unsupported file
 abbrev pub core_or : ℕ → List Item → Option Core → Result Core Refusal
 core_or file items (Some core) = Ok core
 core_or file items None = Err (not_formed file (missing_contract items))
-
--- what expanding gave of the text of a unit
-abbrev pub tokens_of : Text_of_unit → UnitTokens
-tokens_of unit = record { tokens = unit.tokens; headers = unit.headers; includes = unit.includes; «end» = unit.end_of_file }
-
--- the files of a unit, by the paths that are held
-abbrev pub files_by : Holdings → Text_of_unit → Files
-files_by held unit = files_of (tokens_of unit) held
 
 -- the items of a unit read as the refusal in the first phase that refuses them, and else as their core, where they are of the first form
 pub data ItemsRead (held : Holdings) (path : List ℕ) (unit : Text_of_unit) (items : List Item) : Result Core Refusal → Type 0 where
@@ -94,13 +51,6 @@ TextReads held path (Err fault) r = ⊥
 -- the file at a path reads as the core of its unit, or as its first refusal, by what a library tells of the files and the paths that are held; as nothing where the file is not there
 abbrev pub ReadsAs : Holdings → Library → List ℕ → Result Core Refusal → Type 0
 ReadsAs held library path r = TextReads held path (text_of_unit library path) r
-
--- what a fault of the parser reads as, but for want of memory
-abbrev pub refused : ParseFault → Option (Result Core Refusal)
-refused (parse_faults.Unsupported place) = Some (Err (refusal_at Unsupported place))
-refused (parse_faults.Syntax place) = Some (Err (refusal_at Syntax place))
-refused (parse_faults.Depth place) = Some (Err (refusal_at Depth place))
-refused parse_faults.Memory = None
 
 -- what is answered of a reading
 abbrev pub result_of : Reading → Result Core Refusal

@@ -1,6 +1,6 @@
 //! Reading a file: expanding it, parsing its unit, and taking its core.
 
-ghost use Rattle.std.specs.Prelude.{◌≡◌, ℕ, IfOk, IsErrOf, Some};
+ghost use Rattle.std.specs.Prelude.{◌≡◌, ℕ, IfOk, IsErrOf};
 ghost use Rattle.vf_base.specs.Outside.{Rose};
 ghost use Rattle.vf_snapshot.specs.declared.held.Held.TheVariants as known;
 ghost use Rattle.vf_snapshot.specs.Holdings.{IsHeldAt};
@@ -8,19 +8,19 @@ ghost use Rattle.vf_preproc.specs.UnitText.{Library};
 ghost use Rattle.vf_preproc.specs.Units.{Tells};
 ghost use Rattle.vf_expand.specs.Worlds.{world, Reads};
 ghost use Rattle.vf_expand.specs.Wholes.{text_of};
-ghost use Rattle.vf_tool.specs.Readings.{ItemsRead, ReadsAs, UnitReads, core_or, items_of, not_formed, refusal_at, refused, result_of, unsupported};
+ghost use Rattle.vf_module.specs.Parsing.{items_of};
+ghost use Rattle.vf_tool.specs.Readings.{ItemsRead, ReadsAs, UnitReads, core_or, not_formed, result_of, unsupported};
 ghost use Rattle.vf_first.specs.FirstForm.{first_form};
 
+use vf_report::Stop;
 use std::alloc::Global;
-use vf_base::{Files, Memory, Place, Refusal, Rule, RuleFault, Shown};
+use vf_base::{Files, Memory, Place, Refusal, Rule, RuleFault};
 use vf_contractless::missing_contract;
 use vf_expand::{UnitTokens, expand};
 use vf_first::first_form;
-use vf_parse_c::whole::parse;
-use vf_parse_real::fault::ParseFault;
+use vf_module::{Parsed, parse_unit, refusal_at};
 use vf_phases::check_names;
 use vf_preproc::ExpandFault;
-use vf_report::Stop;
 use vf_snapshot::Snapshot;
 use vf_syntax::item::Unit;
 use vf_tree::Core;
@@ -32,17 +32,6 @@ pub enum Reading {
     Core(Core),
     /// Its first refusal.
     Refused(Refusal),
-}
-
-/// A refusal by a rule at a place.
-fn refusal_at(rule: Rule, place: Place) -> Refusal
-    ensures { result ≡ refusal_at rule place }
-{
-    Refusal {
-        rule,
-        place,
-        shown: Shown::Nothing,
-    }
 }
 
 /// The refusal by rule 11 at the first byte of a file.
@@ -80,20 +69,6 @@ fn read_items(alloc: Global, path: &str, file: u32, unit: &Unit) -> Result<Readi
     }
 }
 
-/// The refusal for a fault of the parser.
-fn refused(fault: ParseFault) -> Result<Reading, Memory>
-    ensures { IfOk result (λ r. refused fault ≡ Some (result_of r)) }
-{
-    match fault {
-        ParseFault::Unsupported(place) => {
-            Ok(Reading::Refused(refusal_at(Rule::Unsupported, place)))
-        }
-        ParseFault::Syntax(place) => Ok(Reading::Refused(refusal_at(Rule::Syntax, place))),
-        ParseFault::Depth(place) => Ok(Reading::Refused(refusal_at(Rule::Depth, place))),
-        ParseFault::Memory => Err(Memory),
-    }
-}
-
 /// The core of a unit that passes the phases of names, of fixpoints and of order, or its refusal in the first of them that
 /// refuses it.
 #[tactic(auto, using(crate::proofs::Phased::passed, crate::proofs::Phased::stopped))]
@@ -122,9 +97,9 @@ fn read_unit(
 ) -> Result<Reading, Memory>
     ensures { IfOk result (λ r. UnitReads snapshot.now path.now (text_of unit.now) (items_of (text_of unit.now)) (result_of r)) }
 {
-    match parse(alloc, unit) {
-        Ok(read) => read_phased(alloc, snapshot, path, unit, &read),
-        Err(fault) => refused(fault),
+    match parse_unit(alloc, unit)? {
+        Parsed::Unit(read) => read_phased(alloc, snapshot, path, unit, &read),
+        Parsed::Refused(refusal) => Ok(Reading::Refused(refusal)),
     }
 }
 

@@ -1,3 +1,11 @@
 pub mod Alone
-pub mod Asked
+pub mod Answered
+pub mod Asking
+pub mod Hyphens
+pub mod Lines
+pub mod Borrowed
+pub mod Endings
 pub mod Scoped
+pub mod Shapes
+pub mod Steps
+pub mod Suiting

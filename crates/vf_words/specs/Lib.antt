@@ -1,2 +1,5 @@
+pub mod Given
+pub mod Positionals
+pub mod Reader
 pub mod Words
 pub mod Commands

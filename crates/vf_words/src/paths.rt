@@ -1,6 +1,6 @@
 //! Words that mean paths.
 
-ghost use Rattle.std.specs.Prelude.{◌≡◌, ◌↔◌, IsTrue, All, ◌++◌, List, ℕ, string_bytes, codes};
+ghost use Rattle.std.specs.Prelude.{◌≡◌, ◌↔◌, IsTrue, All, ◌++◌, List, ℕ, codes};
 ghost use Rattle.vf_words.specs.Words.{is_path_byte, IsPathTo, IsSourcePath, IsManifestPath};
 
 fn is_path_byte(byte: u8) -> bool
@@ -51,7 +51,7 @@ fn ends_in_vfmanifest(bytes: &[u8]) -> bool
 }
 
 /// Whether a word is the path of a source file.
-#[tactic(auto, using(crate::proofs::Asked::path_to))]
+#[tactic(auto, using(crate::proofs::Endings::path_to))]
 pub fn is_source_path(word: &str) -> bool
     ensures { IsTrue result ↔ IsSourcePath word.now }
 {
@@ -62,7 +62,7 @@ pub fn is_source_path(word: &str) -> bool
 }
 
 /// Whether a word is the path of a manifest.
-#[tactic(auto, using(crate::proofs::Asked::path_to))]
+#[tactic(auto, using(crate::proofs::Endings::path_to))]
 pub fn is_manifest_path(word: &str) -> bool
     ensures { IsTrue result ↔ IsManifestPath word.now }
 {
@@ -72,9 +72,16 @@ pub fn is_manifest_path(word: &str) -> bool
     manifest && printed
 }
 
-/// Whether each of some words is the path of a manifest.
-pub fn are_manifest_paths(words: &[String]) -> bool
-    ensures { IsTrue result ↔ All (λ w. IsManifestPath (string_bytes w)) words.now }
+/// Whether each of some words is the path of a source file.
+pub fn are_source_paths(words: &[&str]) -> bool
+    ensures { IsTrue result ↔ All (λ w. IsSourcePath w.now) words.now }
 {
-    words.iter().all(|w| is_manifest_path(w.as_str()))
+    words.iter().all(|w| is_source_path(*w))
+}
+
+/// Whether each of some words is the path of a manifest.
+pub fn are_manifest_paths(words: &[&str]) -> bool
+    ensures { IsTrue result ↔ All (λ w. IsManifestPath w.now) words.now }
+{
+    words.iter().all(|w| is_manifest_path(*w))
 }

@@ -1,5 +1,5 @@
 use Rattle.std.proofs.Common.{◌≡◌, ◌≤◌, take, IfSome}
-use Rattle.vf_words.specs.Commands.{texts}
+use Rattle.vf_words.specs.Positionals.{texts}
 use Rattle.vf_manifest_commands.specs.Manifests.{HaveManifests}
 use Rattle.vf_manifest_commands.proofs.linking.load_manifests.Given as goal
 

@@ -1,6 +1,6 @@
 -- A text and its end.
 use Rattle.std.proofs.Common.{◌∙◌, sym, arith, codes}
-use Rattle.vf_words.proofs.Asked.{ends_where, where_ends, ends_long}
+use Rattle.vf_words.proofs.Endings.{ends_where, where_ends, ends_long}
 use Rattle.vf_words.proofs.paths.ends_in_vfmanifest.Goals as goal
 
 pub returns-then-bytes-lt11 : goal.returns-then-bytes-lt11

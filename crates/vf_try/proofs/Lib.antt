@@ -1,0 +1,5 @@
+pub mod Answering
+pub mod Printing
+pub mod Reading
+pub mod Running
+pub mod Uniting

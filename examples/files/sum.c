@@ -1,0 +1,6 @@
+#include "sum.h"
+
+int sum(int first, int second)
+{
+  return first + second;
+}
