@@ -6,8 +6,8 @@ use Rattle.vf_model.specs.Values.{Dyadic}
 use Rattle.vf_meaning.specs.Fractions.{numerator, exponent, reduced}
 use Rattle.vf_fractions.specs.declared.dyadic.Quotient.TheVariants.{Fraction, NoForm, NotDyadic}
 use Rattle.vf_fractions.specs.Kept.{HasForm}
-use Rattle.vf_fractions.specs.Arithmetic.{odd_part, halvings, quotient, Answers}
-use Rattle.vf_fractions.proofs.Lowest.{answers_kept, answers_not_kept, answers_not}
+use Rattle.vf_fractions.specs.Arithmetic.{odd_part, halvings, quotient, told}
+use Rattle.vf_fractions.proofs.Lowest.{told_kept, told_not_kept, told_not}
 
 -- a divisor whose odd part and halvings are known
 module _ (a b : Dyadic) (o z : ℕ) (is : o ≡ odd_part (numerator b)) (halved : z ≡ halvings (numerator b)) where
@@ -19,19 +19,19 @@ module _ (a b : Dyadic) (o z : ℕ) (is : o ≡ odd_part (numerator b)) (halved 
   no_test : (x : ℕ) → (x ≡ 0 → ⊥) → (x == 0) ≡ false
   no_test x h = grind (arith, nat_tests)
 
-  pub no_quotient : (k : ℕ) → k ≡ numerator a → (k % o ≡ 0 → ⊥) → Answers (quotient a b) NotDyadic
-  no_quotient k f h = answers_not (quotient a b) (by_test false None (no_test (numerator a % o) (subst (λ x. x % o ≡ 0 → ⊥) f h)) refl)
+  pub no_quotient : (k : ℕ) → k ≡ numerator a → (k % o ≡ 0 → ⊥) → NotDyadic ≡ told (quotient a b)
+  no_quotient k f h = told_not (quotient a b) (by_test false None (no_test (numerator a % o) (subst (λ x. x % o ≡ 0 → ⊥) f h)) refl)
 
   pub a_quotient : (k n m : ℕ) → k ≡ numerator a → k % o ≡ 0 → n ≡ k / o * 2 ^ exponent b → m ≡ exponent a + z → quotient a b ≡ Some (reduced n m)
   a_quotient k n m f h g i =
       let none : numerator a % o ≡ 0 = subst (λ x. x % o ≡ 0) f h in
       by_test true (Some (reduced n m)) (ap (λ x. x == 0) none) (ap₂ (λ x y. Some (reduced x y)) (g ∙ ap (λ x. x / o * 2 ^ exponent b) f) i)
 
-  pub quotient_kept : (k n m : ℕ) (x : Dyadic) → k ≡ numerator a → k % o ≡ 0 → n ≡ k / o * 2 ^ exponent b → m ≡ exponent a + z → x ≡ reduced n m → HasForm x → Answers (quotient a b) (Fraction x)
-  quotient_kept k n m x f h g i same form = answers_kept (quotient a b) x (reduced n m) (a_quotient k n m f h g i) same form
+  pub quotient_kept : (k n m : ℕ) (x : Dyadic) → k ≡ numerator a → k % o ≡ 0 → n ≡ k / o * 2 ^ exponent b → m ≡ exponent a + z → x ≡ reduced n m → HasForm x → Fraction x ≡ told (quotient a b)
+  quotient_kept k n m x f h g i same form = told_kept (quotient a b) x (reduced n m) (a_quotient k n m f h g i) same form
 
-  pub quotient_not_kept : (k n m : ℕ) → k ≡ numerator a → k % o ≡ 0 → n ≡ k / o * 2 ^ exponent b → m ≡ exponent a + z → (HasForm (reduced n m) → ⊥) → Answers (quotient a b) NoForm
-  quotient_not_kept k n m f h g i form = answers_not_kept (quotient a b) (reduced n m) (a_quotient k n m f h g i) form
+  pub quotient_not_kept : (k n m : ℕ) → k ≡ numerator a → k % o ≡ 0 → n ≡ k / o * 2 ^ exponent b → m ≡ exponent a + z → (HasForm (reduced n m) → ⊥) → NoForm ≡ told (quotient a b)
+  quotient_not_kept k n m f h g i form = told_not_kept (quotient a b) (reduced n m) (a_quotient k n m f h g i) form
 
 -- a part of a number is not greater
 pub part_below : (k o : ℕ) → 0 < o → k < 2 ^ 63 → k / o < 2 ^ 63

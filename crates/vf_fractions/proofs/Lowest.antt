@@ -1,15 +1,17 @@
 -- Fractions in lowest terms.
 use Rattle.std.proofs.Common.{◌≡◌, ℕ, zero, suc, ◌+◌, ◌<◌, ◌≤◌, ◌-◌, ◌*◌, ◌/◌, ◌%◌, ◌^◌, Bool, true, false, cond, refl, sym, ◌∙◌, ap, ap₂, subst, add-one, arith}
-use Rattle.std.specs.Prelude.{◌==◌, Option, Some, None, MatchOption, IsNone}
+use Rattle.std.specs.Prelude.{◌==◌, ◌&&◌, nat_lt, nat_le, Option, Some, None, MatchOption, IsNone}
+use Rattle.std.proofs.lemmas.Bool.{and_from}
 use Rattle.std.proofs.lemmas.Bool.Decides.{nat_tests}
 use Rattle.std.proofs.Common.{pow_pos}
+use Rattle.std.proofs.Math.Pow.{pow_mono}
 use Rattle.std.proofs.lemmas.Nat.{shl_whole, shl_below, mul-lt}
 use Rattle.vf_model.specs.Values.{Dyadic, Whole, Odd}
 use Rattle.vf_meaning.specs.Fractions.{numerator, exponent, reduced, nought, half, AtMost}
 use Rattle.vf_meaning.proofs.Fractions.{reduced_low}
 use Rattle.vf_fractions.specs.declared.dyadic.Quotient.TheVariants.{Fraction, NoForm, NotDyadic}
-use Rattle.vf_fractions.specs.Arithmetic.{difference, Answers}
-use Rattle.vf_fractions.specs.Kept.{IsLowest, lowest, IsKept, HasForm, lowest_numerator, lowest_exponent}
+use Rattle.vf_fractions.specs.Arithmetic.{difference, told}
+use Rattle.vf_fractions.specs.Kept.{IsLowest, lowest, IsKept, HasForm, has_form, formed, lowest_numerator, lowest_exponent}
 
 -- what is in lowest terms is reduced
 pub reduced_lowest : (k m : ℕ) → IsLowest k m → reduced k m ≡ lowest k m
@@ -90,7 +92,7 @@ pub shifted_below : (n e : ℕ) → n < 2 ^ 63 → e ≤ 60 → n * 2 ^ e < 2 ^ 
 shifted_below n e h g = times_below n (2 ^ e) h (powers e g)
   where
     powers : (e : ℕ) → e ≤ 60 → 2 ^ e ≤ 2 ^ 60
-    powers e g = grind (arith, Rattle.std.proofs.Math.Pow.pow_mono)
+    powers e g = grind (arith, pow_mono)
 
     times_below : (n p : ℕ) → n < 2 ^ 63 → p ≤ 2 ^ 60 → n * p < 2 ^ 123
     times_below n p h g = grind arith
@@ -119,29 +121,86 @@ nought_left a b h =
     ap (λ k. reduced k (exponent a + exponent b)) none ∙ reduced_nought (exponent a + exponent b)
 
 -- where a fraction is not greater nothing is left
-pub nothing_left : (a b : Dyadic) → numerator a * 2 ^ exponent b ≤ numerator b * 2 ^ exponent a → HasForm (difference a b) → ⊥
+nothing_left : (a b : Dyadic) → numerator a * 2 ^ exponent b ≤ numerator b * 2 ^ exponent a → HasForm (difference a b) → ⊥
 nothing_left a b h form =
     let no : HasForm nought = subst HasForm (nought_left a b h) form in
     let above = no.positive in absurd (omega (arith, above))
 
--- ---- halves
-weaker : (o : Option Dyadic) (r : Dyadic) → MatchOption o (HasForm r → ⊥) (λ d. (d ≡ r) × HasForm d) → MatchOption o (HasForm r → ⊥) (λ d. d ≡ r)
-weaker None r h = h
-weaker (Some d) r h = h.0
+-- ---- whether there is a form
+pub has_form_where : (d : Dyadic) → HasForm d → has_form d ≡ true
+has_form_where d h =
+    let above = h.positive in
+    let below = h.numerator in
+    let low = h.exponent in
+    and_from (nat_lt 0 (numerator d)) (nat_lt (numerator d) (2 ^ 63) && nat_le (exponent d) 60) (grind (arith, nat_tests))
+    (and_from (nat_lt (numerator d) (2 ^ 63)) (nat_le (exponent d) 60) (grind (arith, nat_tests)) (grind (arith, nat_tests)))
 
+both_first : (x y : Bool) → (x && y) ≡ true → x ≡ true
+both_first true y e = refl
+both_first false y e = cc
+
+both_second : (x y : Bool) → (x && y) ≡ true → y ≡ true
+both_second true y e = e
+both_second false y e = cc
+
+is_above : (n : ℕ) → nat_lt 0 n ≡ true → 0 < n
+is_above n e = grind (arith, nat_tests)
+
+is_below : (n : ℕ) → nat_lt n (2 ^ 63) ≡ true → n < 2 ^ 63
+is_below n e = grind (arith, nat_tests)
+
+is_low : (n : ℕ) → nat_le n 60 ≡ true → n ≤ 60
+is_low n e = grind (arith, nat_tests)
+
+pub has_form_from : (d : Dyadic) → has_form d ≡ true → HasForm d
+has_form_from d e =
+    let rest = both_second (nat_lt 0 (numerator d)) (nat_lt (numerator d) (2 ^ 63) && nat_le (exponent d) 60) e in
+    record {
+      positive = is_above (numerator d) (both_first (nat_lt 0 (numerator d)) (nat_lt (numerator d) (2 ^ 63) && nat_le (exponent d) 60) e);
+      numerator = is_below (numerator d) (both_first (nat_lt (numerator d) (2 ^ 63)) (nat_le (exponent d) 60) rest);
+      exponent = is_low (exponent d) (both_second (nat_lt (numerator d) (2 ^ 63)) (nat_le (exponent d) 60) rest);
+    }
+
+-- an answer that is there exactly where a fraction has a form
+pub formed_from : (o : Option Dyadic) (x : Dyadic) → MatchOption o (HasForm x → ⊥) (λ d. (d ≡ x) × HasForm d) → o ≡ formed x
+formed_from None x h = by (has_form x) refl
+  where
+    by : (b : Bool) → has_form x ≡ b → None ≡ cond b (Some x) None
+    by true e = absurd (h (has_form_from x e))
+    by false e = refl
+formed_from (Some d) x h =
+    ap Some h.0 ∙ sym (ap (λ b. cond b (Some x) None) (has_form_where x (subst HasForm h.0 h.1)))
+
+-- nothing is answered where there is no form
+none_formed : (x : Dyadic) → (HasForm x → ⊥) → None ≡ formed x
+none_formed x h = formed_from None x h
+
+pub none_left : (a b : Dyadic) (n e k m x y : ℕ) → n ≡ numerator a → e ≡ exponent b → k ≡ numerator b → m ≡ exponent a → x ≡ n * 2 ^ e → y ≡ k * 2 ^ m → x ≤ y → None ≡ formed (difference a b)
+none_left a b n e k m x y f g h i p q l =
+    let first : x ≡ numerator a * 2 ^ exponent b = p ∙ ap₂ (λ u v. u * 2 ^ v) f g in
+    let second : y ≡ numerator b * 2 ^ exponent a = q ∙ ap₂ (λ u v. u * 2 ^ v) h i in
+    none_formed (difference a b) (nothing_left a b (omega (arith, first, second, l)))
+
+-- ---- halves
 -- one halving more
-pub half_is : (o : Option Dyadic) (a : Dyadic) (n e : ℕ) → n ≡ numerator a → e ≡ exponent a → MatchOption o (HasForm (reduced n (e + 1)) → ⊥) (λ d. (d ≡ reduced n (e + 1)) × HasForm d) → MatchOption o (HasForm (half a) → ⊥) (λ d. d ≡ half a)
+pub half_is : (o : Option Dyadic) (a : Dyadic) (n e : ℕ) → n ≡ numerator a → e ≡ exponent a → MatchOption o (HasForm (reduced n (e + 1)) → ⊥) (λ d. (d ≡ reduced n (e + 1)) × HasForm d) → o ≡ formed (half a)
 half_is o a n e f g h =
     let next : e + 1 ≡ suc (exponent a) = omega (arith, g) in
-    weaker o (half a) (subst (λ r. MatchOption o (HasForm r → ⊥) (λ d. (d ≡ r) × HasForm d)) (ap₂ reduced f next) h)
+    formed_from o (half a) (subst (λ r. MatchOption o (HasForm r → ⊥) (λ d. (d ≡ r) × HasForm d)) (ap₂ reduced f next) h)
 
 -- ---- quotients
 -- what is kept of a quotient, or is not
-pub answers_kept : (o : Option Dyadic) (x r : Dyadic) → o ≡ Some r → x ≡ r → HasForm x → Answers o (Fraction x)
-answers_kept o x r e f h = subst (λ w. Answers w (Fraction x)) (sym e) (f, subst HasForm f h)
+pub told_kept : (o : Option Dyadic) (x r : Dyadic) → o ≡ Some r → x ≡ r → HasForm x → Fraction x ≡ told o
+told_kept o x r e f h =
+    let is : Fraction x ≡ told (Some r) = ap Fraction f ∙ sym (ap (λ b. cond b (Fraction r) NoForm) (has_form_where r (subst HasForm f h))) in
+    is ∙ ap told (sym e)
 
-pub answers_not_kept : (o : Option Dyadic) (r : Dyadic) → o ≡ Some r → (HasForm r → ⊥) → Answers o NoForm
-answers_not_kept o r e h = subst (λ w. Answers w NoForm) (sym e) h
+pub told_not_kept : (o : Option Dyadic) (r : Dyadic) → o ≡ Some r → (HasForm r → ⊥) → NoForm ≡ told o
+told_not_kept o r e h = by (has_form r) refl ∙ ap told (sym e)
+  where
+    by : (b : Bool) → has_form r ≡ b → NoForm ≡ cond b (Fraction r) NoForm
+    by true g = absurd (h (has_form_from r g))
+    by false g = refl
 
-pub answers_not : (o : Option Dyadic) → o ≡ None → Answers o NotDyadic
-answers_not o e = subst (λ w. Answers w NotDyadic) (sym e) tt
+pub told_not : (o : Option Dyadic) → o ≡ None → NotDyadic ≡ told o
+told_not o e = ap told (sym e)

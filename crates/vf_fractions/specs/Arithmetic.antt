@@ -1,8 +1,8 @@
 -- Differences and quotients of fractions.
-use Rattle.std.specs.Prelude.{◌≡◌, ℕ, ◌+◌, ◌-◌, ◌*◌, ◌/◌, ◌%◌, ◌^◌, cond, ◌==◌, Option, Some, None}
+use Rattle.std.specs.Prelude.{ℕ, ◌+◌, ◌-◌, ◌*◌, ◌/◌, ◌%◌, ◌^◌, cond, ◌==◌, Option, Some, None}
 use Rattle.vf_model.specs.Values.{Dyadic}
 use Rattle.vf_meaning.specs.Fractions.{numerator, exponent, reduced}
-use Rattle.vf_fractions.specs.Kept.{HasForm}
+use Rattle.vf_fractions.specs.Kept.{has_form}
 use Rattle.vf_fractions.specs.declared.dyadic.Quotient.{Quotient}
 use Rattle.vf_fractions.specs.declared.dyadic.Quotient.TheVariants.{Fraction, NoForm, NotDyadic}
 
@@ -22,9 +22,7 @@ halvings n = n - exponent (reduced n n)
 abbrev pub quotient : Dyadic → Dyadic → Option Dyadic
 quotient a b = cond (numerator a % odd_part (numerator b) == 0) (Some (reduced (numerator a / odd_part (numerator b) * 2 ^ exponent b) (exponent a + halvings (numerator b)))) None
 
--- what the code answers for a quotient: the fraction where it has a form, that it has none, or that it is no dyadic fraction
-abbrev pub Answers : Option Dyadic → Quotient → Type 0
-Answers (Some x) (Fraction d) = (d ≡ x) × HasForm x
-Answers (Some x) NoForm = HasForm x → ⊥
-Answers None NotDyadic = Unit {0}
-Answers _ _ = ⊥
+-- a quotient told apart: a fraction that has a form, one that has none, or no dyadic fraction
+abbrev pub told : Option Dyadic → Quotient
+told (Some x) = cond (has_form x) (Fraction x) NoForm
+told None = NotDyadic

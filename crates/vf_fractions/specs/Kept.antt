@@ -1,5 +1,5 @@
 -- Fractions as the code keeps them.
-use Rattle.std.specs.Prelude.{◌≡◌, ℕ, zero, suc, ◌<◌, ◌≤◌, ◌/◌, ◌%◌, ◌^◌}
+use Rattle.std.specs.Prelude.{◌≡◌, ℕ, zero, suc, ◌<◌, ◌≤◌, ◌/◌, ◌%◌, ◌^◌, Bool, ◌&&◌, cond, nat_lt, nat_le, Option, Some, None}
 use Rattle.std.proofs.Common.{arith}
 use Rattle.vf_model.specs.Values.{Dyadic, Whole, Odd}
 use Rattle.vf_meaning.specs.Fractions.{numerator, exponent}
@@ -23,6 +23,14 @@ pub record IsKept (k m : ℕ) : Type 0 where
 -- a fraction has a form: it is above 0, its numerator is less than 2^63 and the exponent of its denominator at most 60
 abbrev pub HasForm : Dyadic → Type 0
 HasForm d = IsKept (numerator d) (exponent d)
+
+-- whether a fraction has a form
+abbrev pub has_form : Dyadic → Bool
+has_form d = nat_lt 0 (numerator d) && (nat_lt (numerator d) (2 ^ 63) && nat_le (exponent d) 60)
+
+-- a fraction, where it has a form
+abbrev pub formed : Dyadic → Option Dyadic
+formed d = cond (has_form d) (Some d) None
 
 pub lowest_numerator : (k m : ℕ) → IsLowest k m → numerator (lowest k m) ≡ k
 lowest_numerator k zero h = omega arith

@@ -4,8 +4,8 @@ ghost use Rattle.std.specs.Prelude.{◌≡◌, ◌↔◌, ◌*◌, ◌<◌, ◌�
 ghost use Rattle.std.specs.Ordering.{int_cmp};
 ghost use Rattle.std.specs.Cmp.Lexicographic.{slice_cmp};
 ghost use Rattle.vf_meaning.specs.Fractions.{numerator, exponent, reduced, whole, sum, product, half, is_at_most};
-ghost use Rattle.vf_fractions.specs.Kept.{IsLowest, IsKept, HasForm};
-ghost use Rattle.vf_fractions.specs.Arithmetic.{difference, odd_part, halvings, quotient, Answers};
+ghost use Rattle.vf_fractions.specs.Kept.{IsLowest, IsKept, HasForm, formed};
+ghost use Rattle.vf_fractions.specs.Arithmetic.{difference, odd_part, halvings, quotient, told};
 
 use std::marker::Model;
 
@@ -170,7 +170,7 @@ impl Dyadic {
     /// Half of the fraction, where it has a form.
     #[tactic(auto, using(crate::proofs::Lowest::half_is))]
     pub fn half(self) -> Option<Dyadic>
-        ensures { MatchOption result (HasForm (half self) → ⊥) (λ d. d ≡ half self) }
+        ensures { result ≡ formed (half self) }
     {
         let numerator = self.numerator();
         let exponent = self.exponent();
@@ -178,8 +178,9 @@ impl Dyadic {
     }
 
     /// The sum of two fractions, where it has a form.
+    #[tactic(auto, using(crate::proofs::Lowest::formed_from))]
     pub fn plus(self, other: Dyadic) -> Option<Dyadic>
-        ensures { MatchOption result (HasForm (sum self other) → ⊥) (λ d. d ≡ sum self other) }
+        ensures { result ≡ formed (sum self other) }
     {
         let first = finer(self.numerator(), other.exponent());
         let second = finer(other.numerator(), self.exponent());
@@ -187,9 +188,9 @@ impl Dyadic {
     }
 
     /// The fraction less another, where it is above 0 and has a form.
-    #[tactic(auto, using(crate::proofs::Lowest::nothing_left))]
+    #[tactic(auto, using(crate::proofs::Lowest::formed_from))]
     pub fn minus(self, other: Dyadic) -> Option<Dyadic>
-        ensures { MatchOption result (HasForm (difference self other) → ⊥) (λ d. d ≡ difference self other) }
+        ensures { result ≡ formed (difference self other) }
     {
         let first = finer(self.numerator(), other.exponent());
         let second = finer(other.numerator(), self.exponent());
@@ -200,9 +201,9 @@ impl Dyadic {
     }
 
     /// The product of two fractions, where it has a form.
-    #[tactic(auto, using(crate::proofs::Lowest::multiplied_below, crate::proofs::Lowest::multiplied_above))]
+    #[tactic(auto, using(crate::proofs::Lowest::formed_from, crate::proofs::Lowest::multiplied_below, crate::proofs::Lowest::multiplied_above))]
     pub fn times(self, other: Dyadic) -> Option<Dyadic>
-        ensures { MatchOption result (HasForm (product self other) → ⊥) (λ d. d ≡ product self other) }
+        ensures { result ≡ formed (product self other) }
     {
         let first = self.numerator();
         let second = other.numerator();
@@ -215,7 +216,7 @@ impl Dyadic {
     /// What the fraction over another is.
     #[tactic(auto, using(crate::proofs::Dividing::dividing))]
     pub fn over(self, other: Dyadic) -> Quotient
-        ensures { Answers (quotient self other) result }
+        ensures { result ≡ told (quotient self other) }
     {
         let odd = odd_part(other.numerator());
         let numerator = self.numerator();
