@@ -1,0 +1,12 @@
+pub mod Results
+pub mod Arguments
+pub mod Places
+pub mod Finding
+pub mod Cells
+pub mod Trying
+pub mod Joining
+pub mod Learning
+pub mod Merging
+pub mod Gathering
+pub mod Taking
+pub mod Reading

@@ -1,0 +1,19 @@
+//! Taking chunks out of heaps, by questions to whoever answers.
+//!
+//! The courses stand in `specs/`: which questions are asked, in which order, and what comes of each answer. `take` takes
+//! a share of the oldest chunk that fits what is wanted, alone or with younger chunks of its location that are merged
+//! with it; `read` gives the content of a cell. Each comes to what its course comes to with just the answers that its
+//! asker gave, and every literal that is asked or hung on a node is between terms that can be compared.
+#![tactic(auto)]
+
+mod find;
+mod fits;
+mod gather;
+mod merge;
+mod read;
+mod take;
+mod wanted;
+
+pub use read::read;
+pub use take::take;
+pub use wanted::{Pattern, PatternList, Places, SharePattern, Taken, Wanted};
