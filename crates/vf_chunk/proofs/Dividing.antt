@@ -87,9 +87,12 @@ module _ (us ts : List Term) where
       step false g = refl
 
   -- the first of what is left is none
-  pub divided_stays : (xs ys : List Term) (i n m : ℕ) (u : Term) (r : Option (List Term)) → i < length us → u ≡ get_or us i u → (is_first_of u (drop n ts) ≡ true → ⊥) → ys ≡ xs ++ u ∷ [] → m ≡ n → behind xs (divided_out (drop i us) (drop n ts)) ≡ r → behind ys (divided_out (drop (i + 1) us) (drop m ts)) ≡ r
+  pub divided_stays : (xs ys : List Term) (i n m : ℕ) (u : Term) (r : Option (List Term)) → i < length us → u ≡ get_or us i u → is_first_of u (drop n ts) ≡ false → ys ≡ xs ++ u ∷ [] → m ≡ n → behind xs (divided_out (drop i us) (drop n ts)) ≡ r → behind ys (divided_out (drop (i + 1) us) (drop m ts)) ≡ r
   divided_stays xs ys i n m u r low is no_ e f h =
-      ap (λ k. behind ys (divided_out (drop (i + 1) us) (drop k ts))) f ∙ divided_kept xs ys i n u r low is no_ e h
+      ap (λ k. behind ys (divided_out (drop (i + 1) us) (drop k ts))) f ∙ divided_kept xs ys i n u r low is (not_both (is_first_of u (drop n ts)) no_) e h
+    where
+      not_both : (b : Bool) → b ≡ false → b ≡ true → ⊥
+      not_both b g k = cc
 
   -- nothing is left
   pub divided_short : (xs : List Term) (i n : ℕ) (d : Term) (r : Option (List Term)) → length us ≤ i → n < length ts → behind xs (divided_out (drop i us) (drop n ts)) ≡ r → None ≡ r

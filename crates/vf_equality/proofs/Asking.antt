@@ -1,5 +1,5 @@
 -- Asking for equalities, and learning them.
-use Rattle.std.proofs.Common.{◌≡◌, refl, subst, sym, Result, Ok, Err, Bool, true, List}
+use Rattle.std.proofs.Common.{◌≡◌, refl, subst, sym, Result, Ok, Err, Bool, true, false, List}
 use Rattle.std.specs.Ordering.{is_eq}
 use Rattle.vf_base.specs.declared.place.Place.{Place}
 use Rattle.vf_base.specs.declared.refusal.Refusal.{Refusal}
@@ -20,12 +20,15 @@ module _ (place : Place) (path : List Literal) (a b : Term) (s t : Seen) where
   unfolding equal
   equal_same e = follows_if (are_one a b) _ _ s s (Ok true) e (follows_done (Ok true) (Ok true) s s refl refl)
 
-  -- terms of two forms
-  pub equal_asks : (l : Literal) (r : Result Bool Refusal) → (is_eq (compare a b) ≡ true → ⊥) → l ≡ equality a b → Follows (asked place path l) s t r → Follows (equal place path a b) s t r
-  unfolding equal
-  equal_asks l r two is p = follows_unless (are_one a b) _ _ s t r two (subst (λ x. Follows (asked place path x) s t r) is p)
+  two_forms : is_eq (compare a b) ≡ false → is_eq (compare a b) ≡ true → ⊥
+  two_forms e f = cc
 
-  pub equal_blames : (l : Literal) (f : RuleFault) → (is_eq (compare a b) ≡ true → ⊥) → l ≡ equality a b → Blames (asked place path l) s t f → Blames (equal place path a b) s t f
+  -- terms of two forms
+  pub equal_asks : (l : Literal) (r : Result Bool Refusal) → is_eq (compare a b) ≡ false → l ≡ equality a b → Follows (asked place path l) s t r → Follows (equal place path a b) s t r
+  unfolding equal
+  equal_asks l r two is p = follows_unless (are_one a b) _ _ s t r (two_forms two) (subst (λ x. Follows (asked place path x) s t r) is p)
+
+  pub equal_blames : (l : Literal) (f : RuleFault) → is_eq (compare a b) ≡ false → l ≡ equality a b → Blames (asked place path l) s t f → Blames (equal place path a b) s t f
   unfolding Blames
   equal_blames l (Refused e) two is p = equal_asks l (Err e) two is p
   equal_blames l Memory two is p = tt

@@ -2,9 +2,11 @@
 //!
 //! `equality` is the literal that `specs/Equality.antt` says, and it can be asked wherever both terms can be compared:
 //! they are in normal form, with numbers within 2^100. `are_equal` and `all_equal` ask, and `learn_equal` hangs the fact
-//! on a node, each by its course, whoever answers.
+//! on a node, each by its course, whoever answers. Law: `comparisons_can_be_asked`.
 #![tactic(auto)]
 
-mod equality;
+mod equal;
+mod laws;
 
-pub use equality::{all_equal, are_equal, equality, learn_equal};
+pub use equal::{all_equal, are_equal, equality, learn_equal};
+pub use laws::comparisons_can_be_asked;

@@ -25,7 +25,7 @@ use Rattle.vf_take.proofs.Places.{rest_of, dropped}
 module _ (places : Places) (path : List Literal) (name : HeadName) (p : Term) where
   -- what follows where a cell's pointer is compared
   abbrev onward : Chunk → Course (Result Term Refusal) → Bool → Course (Result Term Refusal)
-  onward d later yes = cond yes (done (content places.part (known_at d.arguments 1))) later
+  onward d later met = cond met (done (content places.part (known_at d.arguments 1))) later
 
   passed : (cs : List Chunk) → reads places path name p cs ≡ reads places path name p (drop (first_of name cs) cs)
   unfolding reads
@@ -46,34 +46,34 @@ module _ (places : Places) (path : List Literal) (name : HeadName) (p : Term) wh
     pub reads_start : (cs : List Chunk) (j : ℕ) → c ≡ reads places path name p cs → j ≡ 0 + first_of name (drop 0 cs) → Reaches c s (reads places path name p (drop j cs)) s
     reads_start cs j e is = reaches_here _ _ s (e ∙ passed_on cs 0 j is)
 
-    compared_first : (cs : List Chunk) (i : ℕ) (d : Chunk) (t : Seen) → i < length cs → is_one_name (get_or cs i d).head.name name ≡ true → Reaches c s (reads places path name p (drop i cs)) t → Reaches c s (try (points places.statement path p (known_at (get_or cs i d).arguments 0)) (onward (get_or cs i d) (reads places path name p (drop (i + 1) cs)))) t
+    compared_first : (cs : List Chunk) (i : ℕ) (d : Chunk) (t : Seen) → i < length cs → d ≡ get_or cs i d → is_one_name d.head.name name ≡ true → Reaches c s (reads places path name p (drop i cs)) t → Reaches c s (try (points places.statement path p (known_at d.arguments 0)) (onward d (reads places path name p (drop (i + 1) cs)))) t
     unfolding reads
-    compared_first cs i d t low one r =
-        subst (λ b. Reaches c s (cond b (try (points places.statement path p (known_at (get_or cs i d).arguments 0)) (onward (get_or cs i d) (reads places path name p (drop (i + 1) cs)))) (reads places path name p (drop (i + 1) cs))) t) one
-        (subst (λ (xs : List Chunk). Reaches c s (reads places path name p xs) t) (rest_of cs i d low) r)
+    compared_first cs i d t low is one r =
+        subst (λ b. Reaches c s (cond b (try (points places.statement path p (known_at d.arguments 0)) (onward d (reads places path name p (drop (i + 1) cs)))) (reads places path name p (drop (i + 1) cs))) t) one
+        (subst (λ (xs : List Chunk). Reaches c s (reads places path name p xs) t) (rest_of cs i d low is) r)
 
-    pub reads_step : (here : List Literal) (cs : List Chunk) (i j : ℕ) (d : Chunk) (t u : Seen) → here ≡ path → i < length cs → is_one_name (get_or cs i d).head.name name ≡ true → Reaches c s (reads places path name p (drop i cs)) t → Follows (points places.statement here p (known_at (get_or cs i d).arguments 0)) t u (Ok false) → j ≡ i + 1 + first_of name (drop (i + 1) cs) → Reaches c s (reads places path name p (drop j cs)) u
-    reads_step here cs i j d t u same low one r q is =
-        let moved = subst (λ (x : List Literal). Follows (points places.statement x p (known_at (get_or cs i d).arguments 0)) t u (Ok false)) same q in
-        let later : Reaches c s (reads places path name p (drop (i + 1) cs)) u = reaches_step c _ _ s t u (compared_first cs i d t low one r) (reaches_try (points places.statement path p (known_at (get_or cs i d).arguments 0)) (onward (get_or cs i d) (reads places path name p (drop (i + 1) cs))) t u false moved) in
-        subst (λ (x : Course (Result Term Refusal)). Reaches c s x u) (passed_on cs (i + 1) j is) later
+    pub reads_step : (here : List Literal) (cs : List Chunk) (i j : ℕ) (d : Chunk) (y : Bool) (t u : Seen) → y ≡ false → here ≡ path → i < length cs → d ≡ get_or cs i d → is_one_name d.head.name name ≡ true → Reaches c s (reads places path name p (drop i cs)) t → Follows (points places.statement here p (known_at d.arguments 0)) t u (Ok y) → j ≡ i + 1 + first_of name (drop (i + 1) cs) → Reaches c s (reads places path name p (drop j cs)) u
+    reads_step here cs i j d y t u met same low is one r q to =
+        let moved = subst (λ (z : Bool). Follows (points places.statement path p (known_at d.arguments 0)) t u (Ok z)) met (subst (λ (x : List Literal). Follows (points places.statement x p (known_at d.arguments 0)) t u (Ok y)) same q) in
+        let later : Reaches c s (reads places path name p (drop (i + 1) cs)) u = reaches_step c _ _ s t u (compared_first cs i d t low is one r) (reaches_try (points places.statement path p (known_at d.arguments 0)) (onward d (reads places path name p (drop (i + 1) cs))) t u false moved) in
+        subst (λ (x : Course (Result Term Refusal)). Reaches c s x u) (passed_on cs (i + 1) j to) later
 
-    pub reads_gives : (here : List Literal) (cs : List Chunk) (i : ℕ) (d : Chunk) (v : Term) (t u : Seen) → here ≡ path → i < length cs → is_one_name (get_or cs i d).head.name name ≡ true → Reaches c s (reads places path name p (drop i cs)) t → Follows (points places.statement here p (known_at (get_or cs i d).arguments 0)) t u (Ok true) → content places.part (known_at (get_or cs i d).arguments 1) ≡ Ok v → Follows c s u (Ok v)
-    reads_gives here cs i d v t u same low one r q e =
-        let moved = subst (λ (x : List Literal). Follows (points places.statement x p (known_at (get_or cs i d).arguments 0)) t u (Ok true)) same q in
-        reaches_end c _ s t u (Ok v) (compared_first cs i d t low one r)
-        (follows_try (points places.statement path p (known_at (get_or cs i d).arguments 0)) (onward (get_or cs i d) (reads places path name p (drop (i + 1) cs))) t u u true (Ok v) moved (done_gives (content places.part (known_at (get_or cs i d).arguments 1)) v u e))
+    pub reads_gives : (here : List Literal) (cs : List Chunk) (i : ℕ) (d : Chunk) (y : Bool) (v : Term) (t u : Seen) → y ≡ true → here ≡ path → i < length cs → d ≡ get_or cs i d → is_one_name d.head.name name ≡ true → Reaches c s (reads places path name p (drop i cs)) t → Follows (points places.statement here p (known_at d.arguments 0)) t u (Ok y) → content places.part (known_at d.arguments 1) ≡ Ok v → Follows c s u (Ok v)
+    reads_gives here cs i d y v t u met same low is one r q e =
+        let moved = subst (λ (z : Bool). Follows (points places.statement path p (known_at d.arguments 0)) t u (Ok z)) met (subst (λ (x : List Literal). Follows (points places.statement x p (known_at d.arguments 0)) t u (Ok y)) same q) in
+        reaches_end c _ s t u (Ok v) (compared_first cs i d t low is one r)
+        (follows_try (points places.statement path p (known_at d.arguments 0)) (onward d (reads places path name p (drop (i + 1) cs))) t u u true (Ok v) moved (done_gives (content places.part (known_at d.arguments 1)) v u e))
 
-    pub reads_faults : (here : List Literal) (cs : List Chunk) (i : ℕ) (d : Chunk) (f : RuleFault) (t u : Seen) → here ≡ path → i < length cs → is_one_name (get_or cs i d).head.name name ≡ true → Reaches c s (reads places path name p (drop i cs)) t → Follows (points places.statement here p (known_at (get_or cs i d).arguments 0)) t u (Ok true) → Faults (content places.part (known_at (get_or cs i d).arguments 1)) f → Blames c s u f
-    reads_faults here cs i d f t u same low one r q e =
-        let moved = subst (λ (x : List Literal). Follows (points places.statement x p (known_at (get_or cs i d).arguments 0)) t u (Ok true)) same q in
-        reaches_blames c _ s t u f (compared_first cs i d t low one r)
-        (blames_later (points places.statement path p (known_at (get_or cs i d).arguments 0)) (onward (get_or cs i d) (reads places path name p (drop (i + 1) cs))) t u u true f moved (done_faults (content places.part (known_at (get_or cs i d).arguments 1)) f u e))
+    pub reads_faults : (here : List Literal) (cs : List Chunk) (i : ℕ) (d : Chunk) (y : Bool) (f : RuleFault) (t u : Seen) → y ≡ true → here ≡ path → i < length cs → d ≡ get_or cs i d → is_one_name d.head.name name ≡ true → Reaches c s (reads places path name p (drop i cs)) t → Follows (points places.statement here p (known_at d.arguments 0)) t u (Ok y) → Faults (content places.part (known_at d.arguments 1)) f → Blames c s u f
+    reads_faults here cs i d y f t u met same low is one r q e =
+        let moved = subst (λ (z : Bool). Follows (points places.statement path p (known_at d.arguments 0)) t u (Ok z)) met (subst (λ (x : List Literal). Follows (points places.statement x p (known_at d.arguments 0)) t u (Ok y)) same q) in
+        reaches_blames c _ s t u f (compared_first cs i d t low is one r)
+        (blames_later (points places.statement path p (known_at d.arguments 0)) (onward d (reads places path name p (drop (i + 1) cs))) t u u true f moved (done_faults (content places.part (known_at d.arguments 1)) f u e))
 
-    pub reads_fail : (here : List Literal) (cs : List Chunk) (i : ℕ) (d : Chunk) (t u : Seen) (f : RuleFault) → here ≡ path → i < length cs → is_one_name (get_or cs i d).head.name name ≡ true → Reaches c s (reads places path name p (drop i cs)) t → Blames (points places.statement here p (known_at (get_or cs i d).arguments 0)) t u f → Blames c s u f
-    reads_fail here cs i d t u f same low one r b =
-        let moved = subst (λ (x : List Literal). Blames (points places.statement x p (known_at (get_or cs i d).arguments 0)) t u f) same b in
-        reaches_blames c _ s t u f (compared_first cs i d t low one r) (blames_try (points places.statement path p (known_at (get_or cs i d).arguments 0)) (onward (get_or cs i d) (reads places path name p (drop (i + 1) cs))) t u f moved)
+    pub reads_fail : (here : List Literal) (cs : List Chunk) (i : ℕ) (d : Chunk) (t u : Seen) (f : RuleFault) → here ≡ path → i < length cs → d ≡ get_or cs i d → is_one_name d.head.name name ≡ true → Reaches c s (reads places path name p (drop i cs)) t → Blames (points places.statement here p (known_at d.arguments 0)) t u f → Blames c s u f
+    reads_fail here cs i d t u f same low is one r b =
+        let moved = subst (λ (x : List Literal). Blames (points places.statement x p (known_at d.arguments 0)) t u f) same b in
+        reaches_blames c _ s t u f (compared_first cs i d t low is one r) (blames_try (points places.statement path p (known_at d.arguments 0)) (onward d (reads places path name p (drop (i + 1) cs))) t u f moved)
 
     pub reads_end : (cs : List Chunk) (i : ℕ) (f : RuleFault) (t : Seen) → length cs ≤ i → f ≡ Refused (refusal rules.NoChunk places.part) → Reaches c s (reads places path name p (drop i cs)) t → Blames c s t f
     unfolding reads

@@ -44,28 +44,28 @@ module _ (places : Places) (path : List Literal) (w : Wanted) where
     pub finds_start : (cs : List Chunk) (j : ℕ) → c ≡ finds places path w cs 0 → j ≡ 0 + first_of w.head.name (drop 0 cs) → Reaches c s (finds places path w (drop j cs) j) s
     finds_start cs j e is = reaches_here _ _ s (e ∙ passed_on cs 0 j is)
 
-    tried_first : (cs : List Chunk) (i : ℕ) (d : Chunk) (t : Seen) → i < length cs → is_one_name (get_or cs i d).head.name w.head.name ≡ true → Reaches c s (finds places path w (drop i cs) i) t → Reaches c s (try (tries places path w (get_or cs i d)) (or_later i (finds places path w (drop (i + 1) cs) (i + 1)))) t
+    tried_first : (cs : List Chunk) (i : ℕ) (d : Chunk) (t : Seen) → i < length cs → d ≡ get_or cs i d → is_one_name d.head.name w.head.name ≡ true → Reaches c s (finds places path w (drop i cs) i) t → Reaches c s (try (tries places path w d) (or_later i (finds places path w (drop (i + 1) cs) (i + 1)))) t
     unfolding finds
-    tried_first cs i d t low one r =
-        subst (λ b. Reaches c s (cond b (try (tries places path w (get_or cs i d)) (or_later i (finds places path w (drop (i + 1) cs) (i + 1)))) (finds places path w (drop (i + 1) cs) (i + 1))) t) one
-        (subst (λ (xs : List Chunk). Reaches c s (finds places path w xs i) t) (rest_of cs i d low) r)
+    tried_first cs i d t low is one r =
+        subst (λ b. Reaches c s (cond b (try (tries places path w d) (or_later i (finds places path w (drop (i + 1) cs) (i + 1)))) (finds places path w (drop (i + 1) cs) (i + 1))) t) one
+        (subst (λ (xs : List Chunk). Reaches c s (finds places path w xs i) t) (rest_of cs i d low is) r)
 
-    pub finds_step : (here : List Literal) (cs : List Chunk) (i j : ℕ) (d : Chunk) (t u : Seen) → here ≡ path → i < length cs → is_one_name (get_or cs i d).head.name w.head.name ≡ true → Reaches c s (finds places path w (drop i cs) i) t → Follows (tries places here w (get_or cs i d)) t u (Ok None) → j ≡ i + 1 + first_of w.head.name (drop (i + 1) cs) → Reaches c s (finds places path w (drop j cs) j) u
-    finds_step here cs i j d t u same low one r p is =
-        let moved = subst (λ (x : List Literal). Follows (tries places x w (get_or cs i d)) t u (Ok None)) same p in
-        let later : Reaches c s (finds places path w (drop (i + 1) cs) (i + 1)) u = reaches_step c _ _ s t u (tried_first cs i d t low one r) (reaches_try (tries places path w (get_or cs i d)) (or_later i (finds places path w (drop (i + 1) cs) (i + 1))) t u None moved) in
-        subst (λ (x : Course (Result (Option Found) Refusal)). Reaches c s x u) (passed_on cs (i + 1) j is) later
+    pub finds_step : (here : List Literal) (cs : List Chunk) (i j : ℕ) (d : Chunk) (o : Option Portion) (t u : Seen) → o ≡ None → here ≡ path → i < length cs → d ≡ get_or cs i d → is_one_name d.head.name w.head.name ≡ true → Reaches c s (finds places path w (drop i cs) i) t → Follows (tries places here w d) t u (Ok o) → j ≡ i + 1 + first_of w.head.name (drop (i + 1) cs) → Reaches c s (finds places path w (drop j cs) j) u
+    finds_step here cs i j d o t u none same low is one r p to =
+        let moved = subst (λ (z : Option Portion). Follows (tries places path w d) t u (Ok z)) none (subst (λ (x : List Literal). Follows (tries places x w d) t u (Ok o)) same p) in
+        let later : Reaches c s (finds places path w (drop (i + 1) cs) (i + 1)) u = reaches_step c _ _ s t u (tried_first cs i d t low is one r) (reaches_try (tries places path w d) (or_later i (finds places path w (drop (i + 1) cs) (i + 1))) t u None moved) in
+        subst (λ (x : Course (Result (Option Found) Refusal)). Reaches c s x u) (passed_on cs (i + 1) j to) later
 
-    pub finds_found : (here : List Literal) (cs : List Chunk) (i : ℕ) (d : Chunk) (p : Portion) (t u : Seen) → here ≡ path → i < length cs → is_one_name (get_or cs i d).head.name w.head.name ≡ true → Reaches c s (finds places path w (drop i cs) i) t → Follows (tries places here w (get_or cs i d)) t u (Ok (Some p)) → Follows c s u (Ok (Some (record { at = i; portion = p })))
-    finds_found here cs i d p t u same low one r q =
-        let moved = subst (λ (x : List Literal). Follows (tries places x w (get_or cs i d)) t u (Ok (Some p))) same q in
-        reaches_end c _ s t u (Ok (Some (record { at = i; portion = p }))) (tried_first cs i d t low one r)
-        (follows_try (tries places path w (get_or cs i d)) (or_later i (finds places path w (drop (i + 1) cs) (i + 1))) t u u (Some p) (Ok (Some (record { at = i; portion = p }))) moved (follows_done (Ok (Some (record { at = i; portion = p }))) (Ok (Some (record { at = i; portion = p }))) u u refl refl))
+    pub finds_found : (here : List Literal) (cs : List Chunk) (i : ℕ) (d : Chunk) (p : Portion) (o : Option Portion) (t u : Seen) → o ≡ Some p → here ≡ path → i < length cs → d ≡ get_or cs i d → is_one_name d.head.name w.head.name ≡ true → Reaches c s (finds places path w (drop i cs) i) t → Follows (tries places here w d) t u (Ok o) → Follows c s u (Ok (Some (record { at = i; portion = p })))
+    finds_found here cs i d p o t u some same low is one r q =
+        let moved = subst (λ (z : Option Portion). Follows (tries places path w d) t u (Ok z)) some (subst (λ (x : List Literal). Follows (tries places x w d) t u (Ok o)) same q) in
+        reaches_end c _ s t u (Ok (Some (record { at = i; portion = p }))) (tried_first cs i d t low is one r)
+        (follows_try (tries places path w d) (or_later i (finds places path w (drop (i + 1) cs) (i + 1))) t u u (Some p) (Ok (Some (record { at = i; portion = p }))) moved (follows_done (Ok (Some (record { at = i; portion = p }))) (Ok (Some (record { at = i; portion = p }))) u u refl refl))
 
-    pub finds_fail : (here : List Literal) (cs : List Chunk) (i : ℕ) (d : Chunk) (t u : Seen) (f : RuleFault) → here ≡ path → i < length cs → is_one_name (get_or cs i d).head.name w.head.name ≡ true → Reaches c s (finds places path w (drop i cs) i) t → Blames (tries places here w (get_or cs i d)) t u f → Blames c s u f
-    finds_fail here cs i d t u f same low one r b =
-        let moved = subst (λ (x : List Literal). Blames (tries places x w (get_or cs i d)) t u f) same b in
-        reaches_blames c _ s t u f (tried_first cs i d t low one r) (blames_try (tries places path w (get_or cs i d)) (or_later i (finds places path w (drop (i + 1) cs) (i + 1))) t u f moved)
+    pub finds_fail : (here : List Literal) (cs : List Chunk) (i : ℕ) (d : Chunk) (t u : Seen) (f : RuleFault) → here ≡ path → i < length cs → d ≡ get_or cs i d → is_one_name d.head.name w.head.name ≡ true → Reaches c s (finds places path w (drop i cs) i) t → Blames (tries places here w d) t u f → Blames c s u f
+    finds_fail here cs i d t u f same low is one r b =
+        let moved = subst (λ (x : List Literal). Blames (tries places x w d) t u f) same b in
+        reaches_blames c _ s t u f (tried_first cs i d t low is one r) (blames_try (tries places path w d) (or_later i (finds places path w (drop (i + 1) cs) (i + 1))) t u f moved)
 
     pub finds_end : (cs : List Chunk) (i : ℕ) (t : Seen) → length cs ≤ i → Reaches c s (finds places path w (drop i cs) i) t → Follows c s t (Ok None)
     unfolding finds

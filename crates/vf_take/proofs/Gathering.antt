@@ -22,6 +22,7 @@ use Rattle.vf_take.specs.declared.wanted.Gathered.{Gathered}
 use Rattle.vf_take.specs.declared.wanted.Attempt.{Attempt}
 use Rattle.vf_take.specs.declared.wanted.Wanted.{Wanted}
 use Rattle.vf_take.specs.Usable.{known_at}
+use Rattle.vf_take.proofs.Results.{not_both}
 use Rattle.vf_take.specs.Fits.{tries}
 use Rattle.vf_take.specs.Merges.{joins, merges, gathers_if, gathers_one, gathers, begins, starts, alone, tries_gathered, attempts_if, attempts}
 
@@ -58,9 +59,9 @@ module _ (place : Place) (path : List Literal) (a : Option Term) (b : Option Pat
 pub ruleset beginning = (begins_equal, begins_fail, begins_named, begins_wild, begins_lacks, begins_unasked, grew_not)
 
 module _ (place : Place) (path : List Literal) (w : Wanted) (c : Chunk) (s t : Seen) where
-  pub starts_not : (is_one_name c.head.name w.head.name ≡ true → ⊥) → Follows (starts place path w c) s s (Ok false)
+  pub starts_not : is_one_name c.head.name w.head.name ≡ false → Follows (starts place path w c) s s (Ok false)
   unfolding starts
-  starts_not n = follows_unless (is_one_name c.head.name w.head.name) _ _ s s (Ok false) n (follows_done (Ok false) (Ok false) s s refl refl)
+  starts_not n = follows_unless (is_one_name c.head.name w.head.name) _ _ s s (Ok false) (not_both (is_one_name c.head.name w.head.name) n) (follows_done (Ok false) (Ok false) s s refl refl)
 
   pub starts_begins : (y : Result Bool Refusal) → is_one_name c.head.name w.head.name ≡ true → Follows (begins place path (known_at c.arguments 0) (slice_get w.patterns 0)) s t y → Follows (starts place path w c) s t y
   unfolding starts
@@ -105,9 +106,9 @@ pub ruleset gathering_one = (gathers_fail, gathers_not, gathers_in, gathers_in_f
 
 -- ---- a chunk that took in others
 module _ (places : Places) (path : List Literal) (w : Wanted) (g : Gathered) (s t : Seen) where
-  pub tried_not : (g.has_merged ≡ true → ⊥) → Follows (tries_gathered places w (g, path)) s s (Ok (record { gathered = g; portion = None }, path))
+  pub tried_not : g.has_merged ≡ false → Follows (tries_gathered places w (g, path)) s s (Ok (record { gathered = g; portion = None }, path))
   unfolding tries_gathered
-  tried_not n = follows_unless g.has_merged _ _ s s (Ok (record { gathered = g; portion = None }, path)) n (follows_done (Ok (record { gathered = g; portion = None }, path)) (Ok (record { gathered = g; portion = None }, path)) s s refl refl)
+  tried_not n = follows_unless g.has_merged _ _ s s (Ok (record { gathered = g; portion = None }, path)) (not_both g.has_merged n) (follows_done (Ok (record { gathered = g; portion = None }, path)) (Ok (record { gathered = g; portion = None }, path)) s s refl refl)
 
   pub tried_with : (here : List Literal) (p : Option Portion) → here ≡ path → g.has_merged ≡ true → Follows (tries places path w g.chunk) s t (Ok p) → Follows (tries_gathered places w (g, path)) s t (Ok (record { gathered = g; portion = p }, here))
   unfolding tries_gathered

@@ -20,7 +20,7 @@ use Rattle.vf_take.specs.declared.wanted.Places.{Places}
 use Rattle.vf_take.specs.Results.{Faults}
 use Rattle.vf_take.specs.Usable.{known_at}
 use Rattle.vf_take.specs.Merges.{arguments_equal, may_join, rows_join, joins, learns_one, learns, merged_by, with_path, merges}
-use Rattle.vf_take.proofs.Results.{done_gives, done_faults}
+use Rattle.vf_take.proofs.Results.{done_gives, done_faults, not_both}
 
 -- ---- two arguments
 module _ (place : Place) (path : List Literal) (a b : Option Term) (s t : Seen) where
@@ -50,9 +50,9 @@ module _ (place : Place) (path : List Literal) (c d : Chunk) where
   abbrev seconds : List Literal → Course (Result Bool Refusal)
   seconds here = arguments_equal place here (known_at d.arguments 1) (known_at c.arguments 1)
 
-  pub joins_not : (s : Seen) → (may_join c d ≡ true → ⊥) → Follows (joins place path c d) s s (Ok false)
+  pub joins_not : (s : Seen) → may_join c d ≡ false → Follows (joins place path c d) s s (Ok false)
   unfolding joins
-  joins_not s n = follows_unless (may_join c d) _ _ s s (Ok false) n (follows_done (Ok false) (Ok false) s s refl refl)
+  joins_not s n = follows_unless (may_join c d) _ _ s s (Ok false) (not_both (may_join c d) n) (follows_done (Ok false) (Ok false) s s refl refl)
 
   joins_by : (s t : Seen) (y : Result Bool Refusal) → may_join c d ≡ true → Follows (try (firsts path) (rows_join place path c d)) s t y → Follows (joins place path c d) s t y
   unfolding joins
@@ -70,9 +70,9 @@ module _ (place : Place) (path : List Literal) (c d : Chunk) where
   unfolding rows_join
   joins_apart s t m p = joins_by s t (Ok false) m (follows_try (firsts path) (rows_join place path c d) s t t false (Ok false) p (follows_done (Ok false) (Ok false) t t refl refl))
 
-  pub joins_other : (s t : Seen) → may_join c d ≡ true → Follows (arguments_equal place path (known_at d.arguments 0) (known_at c.arguments 0)) s t (Ok true) → (is_of_rows c.head.name ≡ true → ⊥) → Follows (joins place path c d) s t (Ok true)
+  pub joins_other : (s t : Seen) → may_join c d ≡ true → Follows (arguments_equal place path (known_at d.arguments 0) (known_at c.arguments 0)) s t (Ok true) → is_of_rows c.head.name ≡ false → Follows (joins place path c d) s t (Ok true)
   unfolding rows_join
-  joins_other s t m p n = joins_by s t (Ok true) m (follows_try (firsts path) (rows_join place path c d) s t t true (Ok true) p (follows_unless (is_of_rows c.head.name) _ _ t t (Ok true) n (follows_done (Ok true) (Ok true) t t refl refl)))
+  joins_other s t m p n = joins_by s t (Ok true) m (follows_try (firsts path) (rows_join place path c d) s t t true (Ok true) p (follows_unless (is_of_rows c.head.name) _ _ t t (Ok true) (not_both (is_of_rows c.head.name) n) (follows_done (Ok true) (Ok true) t t refl refl)))
 
   pub joins_rows : (s t u : Seen) (here : List Literal) (y : Result Bool Refusal) → here ≡ path → may_join c d ≡ true → Follows (arguments_equal place path (known_at d.arguments 0) (known_at c.arguments 0)) s t (Ok true) → is_of_rows c.head.name ≡ true → Follows (arguments_equal place here (known_at d.arguments 1) (known_at c.arguments 1)) t u y → Follows (joins place path c d) s u y
   unfolding rows_join

@@ -7,14 +7,25 @@ use Rattle.vf_chunk.specs.Heads.{is_one_name}
 use Rattle.vf_chunk.specs.Heaps.{first_of}
 use Rattle.vf_take.specs.Usable.{ChunkCanBeCompared, HeapCanBeCompared}
 
-pub rest_of : {A : Type 0} (xs : List A) (i : ℕ) (x : A) → i < length xs → drop i xs ≡ get_or xs i x ∷ drop (i + 1) xs
-rest_of xs i x low = rw add-one (drop-cons xs i x low)
+pub rest_of : {A : Type 0} (xs : List A) (i : ℕ) (x : A) → i < length xs → x ≡ get_or xs i x → drop i xs ≡ x ∷ drop (i + 1) xs
+rest_of xs i x low is = rw add-one (drop-cons xs i x low ∙ ap (λ y. y ∷ drop (suc i) xs) (sym is))
 
 -- a chunk can be compared where all can
-pub chunk_compared : (cs : List Chunk) (i : ℕ) (d : Chunk) → i < length cs → HeapCanBeCompared cs → ChunkCanBeCompared (get_or cs i d)
-chunk_compared [] i d low all = absurd (omega arith)
-chunk_compared (c ∷ cs) zero d low all = all.0
-chunk_compared (c ∷ cs) (suc i) d low all = chunk_compared cs i d (omega arith) all.1
+chunk_there : (cs : List Chunk) (i : ℕ) (d : Chunk) → i < length cs → HeapCanBeCompared cs → ChunkCanBeCompared (get_or cs i d)
+chunk_there [] i d low all = absurd (omega arith)
+chunk_there (c ∷ cs) zero d low all = all.0
+chunk_there (c ∷ cs) (suc i) d low all = chunk_there cs i d (omega arith) all.1
+
+pub chunk_compared : (cs : List Chunk) (i : ℕ) (d : Chunk) → i < length cs → d ≡ get_or cs i d → HeapCanBeCompared cs → ChunkCanBeCompared d
+chunk_compared cs i d low is all = subst ChunkCanBeCompared (sym is) (chunk_there cs i d low all)
+
+-- an item of a list that is another
+pub item_of : {A : Type 0} (xs ys : List A) (i : ℕ) (x : A) → ys ≡ xs → x ≡ get_or ys i x → x ≡ get_or xs i x
+item_of xs ys i x e is = is ∙ ap (λ zs. get_or zs i x) e
+
+-- a chunk whose place is that of a head
+pub one_name : (name : HeadName) (cs : List Chunk) (i : ℕ) (d : Chunk) → d ≡ get_or cs i d → is_one_name (get_or cs i d).head.name name ≡ true → is_one_name d.head.name name ≡ true
+one_name name cs i d is h = subst (λ (c : Chunk). is_one_name c.head.name name ≡ true) (sym is) h
 
 -- ---- the first chunk of a head
 first_low : (name : HeadName) (cs : List Chunk) → first_of name cs ≤ length cs

@@ -30,6 +30,9 @@ pub ruleset giving = (faults_refused, faults_memory)
 pub chosen : {A : Type 0} (b : Bool) (x y : A) → b ≡ true → cond b x y ≡ x
 chosen b x y e = ap (λ c. cond c x y) e
 
+pub not_both : (b : Bool) → b ≡ false → b ≡ true → ⊥
+not_both b e f = cc
+
 pub passed_over : {A : Type 0} (b : Bool) (x y : A) → (b ≡ true → ⊥) → cond b x y ≡ y
 passed_over true x y h = absurd (h refl)
 passed_over false x y h = refl

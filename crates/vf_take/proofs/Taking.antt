@@ -19,7 +19,7 @@ use Rattle.vf_take.specs.declared.wanted.Wanted.{Wanted}
 use Rattle.vf_take.specs.Results.{Faults}
 use Rattle.vf_take.specs.Takes.{finds, taken_at, beside}
 use Rattle.vf_take.specs.Merges.{merging, taken_or_merged, takes}
-use Rattle.vf_take.proofs.Results.{done_gives, done_faults}
+use Rattle.vf_take.proofs.Results.{done_gives, done_faults, not_both}
 
 pub beside_faults : (path : List Literal) (r : Result Taken Refusal) (f : RuleFault) → Faults r f → Faults (beside path r) f
 beside_faults path r (Refused e) h = ap (beside path) h
@@ -34,11 +34,11 @@ module _ (places : Places) (path : List Literal) (w : Wanted) (cs : List Chunk) 
   taken_refused f x q e g = subst (λ z. Blames (taken_or_merged places path w cs z) s s q) (sym e) (done_faults _ q s (beside_faults path _ q g))
 
   -- no chunk alone fits
-  pub taken_no_location : (f : Option Found) (q : RuleFault) → f ≡ None → (is_primitive w.head.name ≡ true → ⊥) → q ≡ Refused (refusal rules.NoChunk places.part) → Blames (taken_or_merged places path w cs f) s s q
+  pub taken_no_location : (f : Option Found) (q : RuleFault) → f ≡ None → is_primitive w.head.name ≡ false → q ≡ Refused (refusal rules.NoChunk places.part) → Blames (taken_or_merged places path w cs f) s s q
   taken_no_location f q e n is =
       subst (λ z. Blames (taken_or_merged places path w cs z) s s q) (sym e)
       (subst (λ (x : RuleFault). Blames (taken_or_merged places path w cs None) s s x) (sym is)
-      (blames_refused _ s s (refusal rules.NoChunk places.part) (follows_unless (is_primitive w.head.name) _ _ s s (Err (refusal rules.NoChunk places.part)) n (follows_done _ _ s s refl refl))))
+      (blames_refused _ s s (refusal rules.NoChunk places.part) (follows_unless (is_primitive w.head.name) _ _ s s (Err (refusal rules.NoChunk places.part)) (not_both (is_primitive w.head.name) n) (follows_done _ _ s s refl refl))))
 
   pub taken_merged : (f : Option Found) (y : Result (Taken × List Literal) Refusal) → f ≡ None → is_primitive w.head.name ≡ true → Follows (merging (length cs) places path w [] cs) s t y → Follows (taken_or_merged places path w cs f) s t y
   taken_merged f y e g p = subst (λ z. Follows (taken_or_merged places path w cs z) s t y) (sym e) (follows_if (is_primitive w.head.name) _ _ s t y g p)

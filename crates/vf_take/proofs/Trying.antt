@@ -1,5 +1,5 @@
 -- Trying a chunk.
-use Rattle.std.proofs.Common.{◌≡◌, refl, sym, subst, ap, ◌∙◌, Result, Ok, Err, Bool, true, false, cond, length, List}
+use Rattle.std.proofs.Common.{◌≡◌, ℕ, refl, sym, subst, ap, ◌∙◌, Result, Ok, Err, Bool, true, false, cond, length, List}
 use Rattle.std.specs.Prelude.{Option, Some, None, nat_eq}
 use Rattle.std.proofs.lemmas.Bool.Decides.{nat_tests}
 use Rattle.std.proofs.Common.{arith}
@@ -21,6 +21,12 @@ use Rattle.vf_take.specs.Results.{Faults}
 use Rattle.vf_take.specs.Fits.{all_match, shared, suits, tries}
 use Rattle.vf_take.proofs.Results.{done_gives, done_faults}
 
+even_counts : (n m : ℕ) → n ≡ m → nat_eq n m ≡ true
+even_counts n m e = grind (arith, nat_tests)
+
+uneven_counts : (n m : ℕ) → (n ≡ m → ⊥) → nat_eq n m ≡ true → ⊥
+uneven_counts n m h e = h (grind (arith, nat_tests))
+
 module _ (places : Places) (path : List Literal) (w : Wanted) (c : Chunk) (s t : Seen) where
   -- the arguments, and then the share
   pub suits_gives : (m : Match) (p : Option Portion) → Follows (all_match places.statement path false c.arguments w.patterns) s t (Ok m) → shared places m w.share c.share ≡ Ok p → Follows (suits places path w c true) s t (Ok p)
@@ -36,23 +42,17 @@ module _ (places : Places) (path : List Literal) (w : Wanted) (c : Chunk) (s t :
   suits_fails f h = blames_try (all_match places.statement path false c.arguments w.patterns) _ s t f h
 
   -- the head terms, and then the arguments
-  as_many : length c.arguments ≡ length w.patterns → nat_eq (length c.arguments) (length w.patterns) ≡ true
-  as_many e = grind (arith, nat_tests)
-
-  not_as_many : (length c.arguments ≡ length w.patterns → ⊥) → nat_eq (length c.arguments) (length w.patterns) ≡ true → ⊥
-  not_as_many n e = n (grind (arith, nat_tests))
-
   pub tries_uneven : (length c.arguments ≡ length w.patterns → ⊥) → Follows (tries places path w c) s s (Ok None)
   unfolding tries
-  tries_uneven n = follows_unless _ _ _ s s (Ok None) (not_as_many n) (follows_done (Ok None) (Ok None) s s refl refl)
+  tries_uneven n = follows_unless (nat_eq (length c.arguments) (length w.patterns)) _ _ s s (Ok None) (uneven_counts (length c.arguments) (length w.patterns) n) (follows_done (Ok None) (Ok None) s s refl refl)
 
   pub tries_apart : length c.arguments ≡ length w.patterns → Follows (all_equal places.statement path c.head.terms w.head.terms) s t (Ok false) → Follows (tries places path w c) s t (Ok None)
   unfolding tries suits
-  tries_apart e f = follows_if _ _ _ s t (Ok None) (as_many e) (follows_try (all_equal places.statement path c.head.terms w.head.terms) (suits places path w c) s t t false (Ok None) f (follows_done (Ok None) (Ok None) t t refl refl))
+  tries_apart e f = follows_if (nat_eq (length c.arguments) (length w.patterns)) _ _ s t (Ok None) (even_counts (length c.arguments) (length w.patterns) e) (follows_try (all_equal places.statement path c.head.terms w.head.terms) (suits places path w c) s t t false (Ok None) f (follows_done (Ok None) (Ok None) t t refl refl))
 
   tries_by : (y : Result (Option Portion) Refusal) → length c.arguments ≡ length w.patterns → Follows (try (all_equal places.statement path c.head.terms w.head.terms) (suits places path w c)) s t y → Follows (tries places path w c) s t y
   unfolding tries
-  tries_by y e f = follows_if _ _ _ s t y (as_many e) f
+  tries_by y e f = follows_if (nat_eq (length c.arguments) (length w.patterns)) _ _ s t y (even_counts (length c.arguments) (length w.patterns) e) f
 
   tries_blamed : (f : RuleFault) → length c.arguments ≡ length w.patterns → Blames (try (all_equal places.statement path c.head.terms w.head.terms) (suits places path w c)) s t f → Blames (tries places path w c) s t f
   unfolding Blames

@@ -4,3 +4,5 @@ pub mod Fits
 pub mod Takes
 pub mod Merges
 pub mod Reads
+pub mod Laws
+pub mod Examples

@@ -7,6 +7,7 @@ use Rattle.vf_chunk.specs.declared.chunk.Argument.TheVariants.{Known, Unknown}
 use Rattle.vf_chunk.specs.declared.chunk.Chunk.{Chunk}
 use Rattle.vf_take.specs.declared.wanted.Pattern.{Pattern}
 use Rattle.vf_take.specs.declared.wanted.Pattern.TheVariants as patterns
+use Rattle.vf_take.specs.declared.wanted.Taken.{Taken}
 use Rattle.vf_take.specs.declared.wanted.Wanted.{Wanted}
 
 -- an argument that is known can be compared
@@ -28,6 +29,11 @@ pub record ChunkCanBeCompared (c : Chunk) : Type 0 where
 abbrev pub HeapCanBeCompared : List Chunk → Type 0
 HeapCanBeCompared [] = Unit {0}
 HeapCanBeCompared (c ∷ cs) = ChunkCanBeCompared c × HeapCanBeCompared cs
+
+-- what is taken, and what is left, can be compared
+pub record TakenCanBeCompared (t : Taken) : Type 0 where
+  pub chunk : ChunkCanBeCompared t.chunk
+  pub heap : HeapCanBeCompared t.heap
 
 -- the term of a pattern, if it has one, can be compared
 abbrev pub PatternCanBeCompared : Pattern → Type 0

@@ -7,7 +7,7 @@ ghost use Rattle.vf_base.specs.declared.refusal.RuleFault.TheVariants.{Refused};
 ghost use Rattle.vf_asking.specs.Course.{Says, refusal};
 ghost use Rattle.vf_asking.specs.Journal.{Grew, HasNode, path_at, seen};
 ghost use Rattle.vf_take.specs.Usable.{ArgumentCanBeCompared, ArgumentsCanBeCompared, PatternCanBeCompared, PatternsCanBeCompared, ChunkCanBeCompared, WantedCanBeCompared, known_at};
-ghost use Rattle.vf_take.specs.Fits.{matches, all_match, portion, shared, suits, tries};
+ghost use Rattle.vf_take.specs.Fits.{matches, is_different, so_far, all_match, portion, shared, suits, tries};
 ghost use Rattle.vf_take.specs.Results.{Gives};
 
 use crate::wanted::{Match, Pattern, Places, Portion, SharePattern, Wanted};
@@ -85,6 +85,28 @@ fn compare_argument<A: Asker>(
     }
 }
 
+/// Whether an argument differs.
+fn is_different(found: Match) -> bool
+    ensures { result ≡ is_different found }
+{
+    match found {
+        Match::Matches => false,
+        Match::Lacks => false,
+        Match::Differs => true,
+    }
+}
+
+/// Whether one of some arguments lacks its value, when one more is compared.
+fn so_far(lacks: bool, found: Match) -> bool
+    ensures { result ≡ so_far lacks found }
+{
+    match found {
+        Match::Matches => lacks,
+        Match::Lacks => true,
+        Match::Differs => lacks,
+    }
+}
+
 /// How arguments meet as many patterns: from the left up to the first that differs.
 fn compare_arguments<A: Asker>(
     alloc: Global,
@@ -106,7 +128,7 @@ fn compare_arguments<A: Asker>(
 {
     let mut lacks = false;
     for index in 0..arguments.len() {
-        match compare_argument(
+        let found = match compare_argument(
             alloc,
             asker,
             at,
@@ -114,11 +136,13 @@ fn compare_arguments<A: Asker>(
             &patterns[index],
             place,
         ) {
-            Ok(Match::Matches) => {}
-            Ok(Match::Lacks) => lacks = true,
-            Ok(Match::Differs) => return Ok(Match::Differs),
+            Ok(found) => found,
             Err(fault) => return Err(fault),
+        };
+        if is_different(found) {
+            return Ok(Match::Differs);
         }
+        lacks = so_far(lacks, found);
     }
     if lacks {
         return Ok(Match::Lacks);
@@ -127,7 +151,7 @@ fn compare_arguments<A: Asker>(
 }
 
 /// What is taken of a share, if it fits.
-#[tactic(auto, using(crate::proofs::Results::giving))]
+#[tactic(auto, using(crate::proofs::Shares::portions))]
 fn portion(
     alloc: Global,
     wanted: &SharePattern,
@@ -155,6 +179,7 @@ fn portion(
 }
 
 /// What is taken of a chunk whose arguments are compared.
+#[tactic(auto, using(crate::proofs::Shares::sharing))]
 fn shared(
     alloc: Global,
     found: Match,
@@ -166,12 +191,17 @@ fn shared(
 {
     match found {
         Match::Differs => Ok(None),
-        Match::Matches => portion(alloc, wanted, share, places.statement),
-        Match::Lacks => match portion(alloc, wanted, share, places.statement) {
-            Ok(None) => Ok(None),
-            Ok(Some(_)) => Err(refused(Rule::Unset, places.part)),
-            Err(fault) => Err(fault),
-        },
+        Match::Matches => {
+            let portion = portion(alloc, wanted, share, places.statement)?;
+            Ok(portion)
+        }
+        Match::Lacks => {
+            let portion = portion(alloc, wanted, share, places.statement)?;
+            match portion {
+                None => Ok(None),
+                Some(_) => Err(refused(Rule::Unset, places.part)),
+            }
+        }
     }
 }
 

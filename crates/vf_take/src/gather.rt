@@ -4,13 +4,13 @@ ghost use Rattle.std.specs.Prelude.{◌≡◌, ◌<◌, ◌∷◌, ◌++◌, [],
 ghost use Rattle.vf_asking.specs.Course.{Says};
 ghost use Rattle.vf_asking.specs.Journal.{Grew, HasNode, path_at, seen};
 ghost use Rattle.vf_take.specs.Results.{Gives};
-ghost use Rattle.vf_take.specs.Usable.{ArgumentsCanBeCompared, PatternsCanBeCompared, ChunkCanBeCompared, HeapCanBeCompared, WantedCanBeCompared, known_at};
+ghost use Rattle.vf_take.specs.Usable.{ArgumentsCanBeCompared, PatternsCanBeCompared, ChunkCanBeCompared, HeapCanBeCompared, TakenCanBeCompared, WantedCanBeCompared, known_at};
 ghost use Rattle.vf_take.specs.Takes.{taken_at};
 ghost use Rattle.vf_take.specs.Merges.{gathers_one, gathers, begins, starts, alone, tries_gathered, attempts, merging};
 
 use crate::fits::{known_at, refused, try_chunk};
 use crate::merge::{is_joined, take_in};
-use crate::take::take_portion;
+use crate::takes::take_portion;
 use crate::wanted::{Attempt, Gathered, Pattern, Places, Portion, Taken, Wanted};
 use std::alloc::Global;
 use vf_asking::Asker;
@@ -259,7 +259,11 @@ fn take_between(
     portion: Portion,
     places: Places,
 ) -> Result<Taken, RuleFault>
-    ensures { Gives (taken_at places (before ++ gathered.chunk ∷ gathered.stay) (length before) portion (slice_get (before ++ gathered.chunk ∷ gathered.stay) (length before))) (λ t. t) result }
+    requires older { HeapCanBeCompared before }
+    requires chunk { ChunkCanBeCompared gathered.chunk }
+    requires younger { HeapCanBeCompared gathered.stay }
+    ensures gives { Gives (taken_at places (before ++ gathered.chunk ∷ gathered.stay) (length before) portion (slice_get (before ++ gathered.chunk ∷ gathered.stay) (length before))) (λ t. t) result }
+    ensures kept { IfOk result TakenCanBeCompared }
 {
     let at = before.count();
     let mut older = before;
@@ -284,6 +288,7 @@ pub(crate) fn merge_and_take<A: Asker>(
     ensures says { Says (merging (length heap) places (path_at (A.journal asker.old) at) wanted.now [] heap)
         (λ t. (t.0, path_at (A.journal asker.new) t.1))
         (seen (A.journal asker.old)) (seen (A.journal asker.new)) result }
+    ensures kept { IfOk result (λ t. TakenCanBeCompared t.0) }
     ensures node { IfOk result (λ t. HasNode (A.journal asker.new) t.1) }
     ensures grew { Grew (A.journal asker.old) (A.journal asker.new) }
     ensures origin { A.origin asker.new ≡ A.origin asker.old }

@@ -176,7 +176,7 @@ fn merged_by(
 }
 
 /// An older chunk takes in a younger one.
-#[tactic(auto, using(crate::proofs::Joining::merging))]
+#[tactic(auto, using(crate::proofs::Joining::merging, crate::proofs::Compared::merged_compared))]
 pub(crate) fn take_in<A: Asker>(
     alloc: Global,
     asker: &mut A,

@@ -12,6 +12,7 @@ invariant-loop-round g l =
     record {
       begun : 0 < length (journal l.asker).units;
       there : HasNode (journal l.asker) l.node;
+      before : HeapCanBeCompared l.before;
       left : HeapCanBeCompared l.rest;
       reaches : Reaches (merging (length l.fn.heap) l.places (path_at (journal l.fn.asker) l.at) l.wanted [] l.fn.heap) (seen (journal l.fn.asker)) (merging (length l.fn.heap - l.round) l.places (path_at (journal l.asker) l.node) l.wanted l.before l.rest) (seen (journal l.asker));
       grew : Grew (journal l.fn.asker) (journal l.asker);

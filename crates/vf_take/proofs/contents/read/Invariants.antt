@@ -4,7 +4,7 @@ use Rattle.vf_asking.specs.Journal.{Grew, HasNode, path_at, seen}
 use Rattle.vf_chunk.specs.declared.chunk.Chunk.{Chunk}
 use Rattle.vf_chunk.specs.Heads.{is_one_name}
 use Rattle.vf_take.specs.Reads.{reads}
-use Rattle.vf_take.proofs.read.read.Given as goal
+use Rattle.vf_take.proofs.contents.read.Given as goal
 
 -- no cell before the place is at the pointer, and the chunk there is of the field
 abbrev pub invariant-loop-place : goal.invariant-loop-place

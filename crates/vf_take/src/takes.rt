@@ -4,7 +4,7 @@ ghost use Rattle.std.specs.Prelude.{◌≡◌, ◌<◌, IfOk, IfSome, length, sl
 ghost use Rattle.vf_asking.specs.Course.{Says};
 ghost use Rattle.vf_asking.specs.Journal.{Grew, HasNode, path_at, seen};
 ghost use Rattle.vf_take.specs.Results.{Gives};
-ghost use Rattle.vf_take.specs.Usable.{HeapCanBeCompared, WantedCanBeCompared};
+ghost use Rattle.vf_take.specs.Usable.{HeapCanBeCompared, TakenCanBeCompared, WantedCanBeCompared};
 ghost use Rattle.vf_take.specs.Takes.{taken_at};
 ghost use Rattle.vf_take.specs.declared.wanted.Portion.TheVariants.{Part};
 ghost use Rattle.vf_take.specs.Merges.{taken_or_merged, takes};
@@ -21,6 +21,7 @@ use vf_fractions::Dyadic;
 use vf_trail::Node;
 
 /// A part is taken of the chunk at a place, and what is left stays there.
+#[tactic(auto, using(crate::proofs::Kept::taken_kept, crate::proofs::Parting::parting))]
 fn take_part(
     alloc: Global,
     heap: Heap,
@@ -28,8 +29,10 @@ fn take_part(
     coefficient: Dyadic,
     places: Places,
 ) -> Result<Taken, RuleFault>
-    requires { at < length heap }
-    ensures { Gives (taken_at places heap at (Part coefficient) (slice_get heap at)) (λ t. t) result }
+    requires within { at < length heap }
+    requires compared { HeapCanBeCompared heap }
+    ensures gives { Gives (taken_at places heap at (Part coefficient) (slice_get heap at)) (λ t. t) result }
+    ensures kept { IfOk result TakenCanBeCompared }
 {
     let mut heap = heap;
     match split(alloc, &heap.as_slice()[at], coefficient) {
@@ -47,6 +50,7 @@ fn take_part(
 }
 
 /// What fits is taken of the chunk at a place.
+#[tactic(auto, using(crate::proofs::Kept::taken_kept, crate::proofs::Parting::parting))]
 pub(crate) fn take_portion(
     alloc: Global,
     heap: Heap,
@@ -54,8 +58,10 @@ pub(crate) fn take_portion(
     portion: Portion,
     places: Places,
 ) -> Result<Taken, RuleFault>
-    requires { at < length heap }
-    ensures { Gives (taken_at places heap at portion (slice_get heap at)) (λ t. t) result }
+    requires within { at < length heap }
+    requires compared { HeapCanBeCompared heap }
+    ensures gives { Gives (taken_at places heap at portion (slice_get heap at)) (λ t. t) result }
+    ensures kept { IfOk result TakenCanBeCompared }
 {
     match portion {
         Portion::Whole(bound) => {
@@ -86,6 +92,7 @@ fn take_found<A: Asker>(
     ensures says { Says (taken_or_merged places (path_at (A.journal asker.old) at) wanted.now heap found)
         (λ t. (t.0, path_at (A.journal asker.new) t.1))
         (seen (A.journal asker.old)) (seen (A.journal asker.new)) result }
+    ensures kept { IfOk result (λ t. TakenCanBeCompared t.0) }
     ensures node { IfOk result (λ t. HasNode (A.journal asker.new) t.1) }
     ensures grew { Grew (A.journal asker.old) (A.journal asker.new) }
     ensures origin { A.origin asker.new ≡ A.origin asker.old }
@@ -128,6 +135,7 @@ pub fn take<A: Asker>(
     ensures says { Says (takes places (path_at (A.journal asker.old) at) wanted.now heap)
         (λ t. (t.0, path_at (A.journal asker.new) t.1))
         (seen (A.journal asker.old)) (seen (A.journal asker.new)) result }
+    ensures kept { IfOk result (λ t. TakenCanBeCompared t.0) }
     ensures node { IfOk result (λ t. HasNode (A.journal asker.new) t.1) }
     ensures grew { Grew (A.journal asker.old) (A.journal asker.new) }
     ensures origin { A.origin asker.new ≡ A.origin asker.old }

@@ -2,7 +2,7 @@ use Rattle.std.proofs.Common.{◌≡◌, ◌<◌, length, drop}
 use Rattle.vf_asking.specs.Course.{Reaches}
 use Rattle.vf_asking.specs.Journal.{Grew, HasNode, path_at, seen}
 use Rattle.vf_equality.specs.Equality.{all_equal}
-use Rattle.vf_equality.proofs.equality.all_equal.Given as goal
+use Rattle.vf_equality.proofs.equal.all_equal.Given as goal
 
 -- the pairs so far are equal, and what is left comes to what all come to
 abbrev pub invariant-loop-index : goal.invariant-loop-index
