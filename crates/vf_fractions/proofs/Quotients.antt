@@ -1,6 +1,6 @@
 -- Laws of differences and quotients.
-use Rattle.std.proofs.Common.{◌≡◌, ℕ, zero, suc, ◌+◌, ◌-◌, ◌*◌, ◌/◌, ◌%◌, ◌^◌, ◌<◌, ◌≤◌, Bool, true, false, cond, refl, sym, ap, ap₂, subst, ◌∙◌, inl, inr, arith, pow-add}
-use Rattle.std.specs.Prelude.{◌==◌, Option, Some, None}
+use Rattle.std.proofs.Common.{◌≡◌, ℕ, zero, suc, ◌+◌, ◌-◌, ◌*◌, ◌/◌, ◌%◌, ◌^◌, ◌<◌, ◌≤◌, Bool, true, false, cond, refl, sym, ap, subst, ◌∙◌, inl, inr, arith, pow-add}
+use Rattle.std.specs.Prelude.{◌==◌, Some, None}
 use Rattle.std.proofs.lemmas.Bool.{cases_order}
 use Rattle.std.proofs.lemmas.Bool.Decides.{eqb_tells, nat_tests}
 use Rattle.std.proofs.lemmas.Nat.{shl-shr, mod-mul-add}
@@ -214,9 +214,9 @@ module _ (a b : Dyadic) (h : IsPositive b) where
       let v = exponent q in
       let z = halvings (numerator b) in
       let same : numerator a * 2 ^ (n + v - exponent a) ≡ numerator b * 2 ^ (n - n) * (numerator q * 2 ^ (v - v)) =
-          ap (λ x. units x (n + v)) (sym e) ∙ product_units b q n v (omega arith) (omega arith) in
+      ap (λ x. units x (n + v)) (sym e) ∙ product_units b q n v (omega arith) (omega arith) in
       let d = divides_power odd (odd_is (numerator b) h) (n + v - exponent a) (numerator a) (2 ^ z * numerator q)
-          (same ∙ split (numerator b) odd (numerator q) n v z (odd_back (numerator b))) in
+      (same ∙ split (numerator b) odd (numerator q) n v z (odd_back (numerator b))) in
       no_remainder odd (numerator a) d.0 odd_above d.1
     where
       split : (l o u n v z : ℕ) → o * 2 ^ z ≡ l → l * 2 ^ (n - n) * (u * 2 ^ (v - v)) ≡ o * (2 ^ z * u)

@@ -1,5 +1,5 @@
 -- Laws of differences and quotients. Each is the contract of a public function with an empty body.
-use Rattle.std.specs.Prelude.{◌≡◌, ◌↔◌, Option, Some}
+use Rattle.std.specs.Prelude.{◌≡◌, ◌↔◌, Some}
 use Rattle.vf_model.specs.Values.{Dyadic}
 use Rattle.vf_meaning.specs.Fractions.{nought, sum, product, IsPositive, AtMost}
 use Rattle.vf_fractions.specs.Arithmetic.{difference, quotient}

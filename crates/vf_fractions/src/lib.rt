@@ -9,6 +9,5 @@
 mod dyadic;
 mod laws;
 
-
 pub use dyadic::{Dyadic, Quotient};
 pub use laws::{differences_add_up, quotients_multiply_back};
