@@ -1,8 +1,7 @@
 -- Heads: what a chunk is of.
 use Rattle.std.specs.Prelude.{Bool, true, false, ◌&&◌, ◌==◌, List, [], ◌∷◌}
-use Rattle.vf_tree.specs.Core.{Identity}
 use Rattle.vf_model.specs.Values.{same_identity}
-use Rattle.vf_meaning.specs.Chunks.{Primitive, Mutexes, HeldMutexes, Handles, IntBlocks, IntCells, Others, primitive}
+use Rattle.vf_meaning.specs.Chunks.{Primitive, IntCells, Others, primitive}
 use Rattle.vf_closure.specs.Terms.{Term}
 use Rattle.vf_chunk.specs.declared.head.HeadName.{HeadName}
 use Rattle.vf_chunk.specs.declared.head.HeadName.TheVariants as names

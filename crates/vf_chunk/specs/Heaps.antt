@@ -1,5 +1,5 @@
 -- Heaps by head.
-use Rattle.std.specs.Prelude.{ℕ, zero, suc, cond, List, [], ◌∷◌}
+use Rattle.std.specs.Prelude.{ℕ, suc, cond, List, [], ◌∷◌}
 use Rattle.vf_chunk.specs.declared.head.HeadName.{HeadName}
 use Rattle.vf_chunk.specs.declared.chunk.Chunk.{Chunk}
 use Rattle.vf_chunk.specs.Heads.{is_one_name}

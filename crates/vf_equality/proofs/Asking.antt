@@ -1,5 +1,5 @@
 -- Asking for equalities, and learning them.
-use Rattle.std.proofs.Common.{◌≡◌, refl, subst, sym, Result, Ok, Err, Bool, true, false, List}
+use Rattle.std.proofs.Common.{◌≡◌, refl, subst, Result, Ok, Err, Bool, true, false, List}
 use Rattle.std.specs.Ordering.{is_eq}
 use Rattle.vf_base.specs.declared.place.Place.{Place}
 use Rattle.vf_base.specs.declared.refusal.Refusal.{Refusal}

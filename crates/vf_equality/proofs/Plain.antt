@@ -6,18 +6,17 @@ use Rattle.std.specs.declared.cmp.Ordering.{Ordering}
 use Rattle.std.specs.declared.cmp.Ordering.TheVariants as order
 use Rattle.std.proofs.lemmas.Int.{ints}
 use Rattle.vf_tree.specs.Core.{Comparison, Equal, NotEqual, Less, LessEqual, Greater, GreaterEqual}
-use Rattle.vf_meaning.specs.GhostValues.{compared}
 use Rattle.vf_arith.specs.Paths.{IsSmall}
-use Rattle.vf_closure.specs.Terms.{Kind, Integer, Other, Head, Number, Sum, Plus, Compare, Truth, Term, Terms, term, no_terms, and_term, kind_of, number}
+use Rattle.vf_closure.specs.Terms.{Kind, Integer, Other, Head, Number, Sum, Plus, Term, Terms, term, no_terms, and_term, kind_of, number}
 use Rattle.vf_closure.specs.Literals.{Literal, IsInteger}
 use Rattle.vf_closure.specs.Literals as literals
 use Rattle.vf_formula.specs.Literals.{shown_literal}
 use Rattle.vf_formula.specs.declared.literal.Literal as code
 use Rattle.vf_normal.specs.Order.{compare}
-use Rattle.vf_normal.specs.Sums.{Weighted, Linear, is_small, put, placed, with_atom, together, times_each, added, scaled, paired, one_atom, number_in, atoms_of, plus_form, form_of, factors_of, row_of, integer_by, as_integer, sum_of}
+use Rattle.vf_normal.specs.Sums.{Weighted, Linear, is_small, put, placed, with_atom, together, times_each, paired, number_in, atoms_of, plus_form, form_of, row_of, integer_by, as_integer, sum_of}
 use Rattle.vf_normal.specs.Normal.{comparison}
 use Rattle.vf_normal.specs.Comparisons.{difference, above, below, below_nought, at_most_nought, is_nought, is_not_nought, difference_literal, is_true_literal, literal_of}
-use Rattle.vf_question.specs.Plain.{IsPlain, ArePlain, IsPlainLiteral}
+use Rattle.vf_question.specs.Plain.{IsPlain, ArePlain}
 use Rattle.vf_asking.specs.Plain.{CanBeAsked, is_integer}
 use Rattle.vf_equality.specs.Equality.{CanBeCompared, equality}
 use Rattle.vf_equality.specs.Laws.{ComparisonsCanBeAsked}
