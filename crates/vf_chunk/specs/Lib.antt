@@ -1,0 +1,4 @@
+pub mod Shares
+pub mod Heads
+pub mod Chunks
+pub mod Heaps

@@ -1,0 +1,3 @@
+pub mod Kept
+pub mod Arithmetic
+pub mod Laws
