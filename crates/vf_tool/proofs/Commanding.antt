@@ -1,5 +1,5 @@
 -- What the commands print that make no promise of safety.
-use Rattle.std.proofs.Common.{◌≡◌, inl, inr, sym, subst, ◌⊎◌, ℕ, List, Option, Some, None, Result, Ok, Err, IfOk, IfSome}
+use Rattle.std.proofs.Common.{◌≡◌, inl, inr, sym, subst, ◌⊎◌, ℕ, List, Option, Some, None, Result, Ok, Err, IfNone, IfOk, IfSome}
 use Rattle.vf_base.specs.Outside.{Contents, FileMap, Takes, TakesFront}
 use Rattle.vf_report.specs.declared.status.Answered.{Answered}
 use Rattle.vf_report.specs.declared.status.Status.{Status}
@@ -7,7 +7,9 @@ use Rattle.vf_report.specs.declared.status.Status.TheVariants as statuses
 use Rattle.vf_report.specs.declared.status.Stop.{Stop}
 use Rattle.vf_report.specs.declared.status.Stop.TheVariants as stops
 use Rattle.vf_report.specs.Status.{IsTold, status_of_stop}
-use Rattle.vf_words.specs.Words.{IsLink, IsTrace, IsTry}
+use Rattle.vf_words.specs.declared.command.Command.{Command}
+use Rattle.vf_words.specs.Commands.{Asks}
+use Rattle.vf_words.specs.Words.{AskNothing, IsLink, IsTrace, IsTry}
 use Rattle.vf_try.specs.declared.purpose.Purpose.TheVariants.{Run, Trace}
 use Rattle.vf_try.specs.Answers as tries
 use Rattle.vf_manifest_commands.specs.Manifests.{IsLinkAnswer}
@@ -78,3 +80,10 @@ pub traced_answers : (contents : Contents) (words : List (List ℕ)) (schedule :
 traced_answers contents words schedule files (Err stop) asked h = tt
 traced_answers None words schedule files (Ok a) asked h = tt
 traced_answers (Some m) words schedule files (Ok a) asked h = commands.Answers.traced schedule files asked h
+
+-- the command that words ask for, and that they ask for none
+pub asked_is : (words : List (List ℕ)) (o : Option Command) (x y : Command) → o ≡ Some x → x ≡ y → IfSome o (λ c. Asks words c) → Asks words y
+asked_is words o x y is same h = subst (Asks words) same (subst (λ (p : Option Command). IfSome p (λ c. Asks words c)) is h)
+
+pub nothing_is : (words : List (List ℕ)) (o : Option Command) → o ≡ None → IfNone o (AskNothing words) → AskNothing words
+nothing_is words o is h = subst (λ (p : Option Command). IfNone p (AskNothing words)) is h

@@ -12,7 +12,6 @@ ghost use Rattle.vf_module.specs.Parsing.{items_of};
 ghost use Rattle.vf_tool.specs.Readings.{ItemsRead, ReadsAs, UnitReads, core_or, not_formed, result_of, unsupported};
 ghost use Rattle.vf_first.specs.FirstForm.{first_form};
 
-use vf_report::Stop;
 use std::alloc::Global;
 use vf_base::{Files, Memory, Place, Refusal, Rule, RuleFault};
 use vf_contractless::missing_contract;
@@ -21,6 +20,7 @@ use vf_first::first_form;
 use vf_module::{Parsed, parse_unit, refusal_at};
 use vf_phases::check_names;
 use vf_preproc::ExpandFault;
+use vf_report::Stop;
 use vf_snapshot::Snapshot;
 use vf_syntax::item::Unit;
 use vf_tree::Core;

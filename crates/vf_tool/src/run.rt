@@ -122,14 +122,18 @@ pub fn run_words<F: Files, S: Sink>(
             print_run(alloc, run.schedule, run.word, files, out, journal)
         },
         Some(Command::Try(asked)) => {
-            let words = asked.words.as_slice();
-            let answer = try_answer(alloc, Purpose::Run, asked.schedule, words, files);
-            print_answer(answer, out)
+            let given = asked.words.as_slice();
+            print_answer(
+                try_answer(alloc, Purpose::Run, asked.schedule, given, files),
+                out,
+            )
         }
         Some(Command::Trace(asked)) => {
-            let words = asked.words.as_slice();
-            let answer = try_answer(alloc, Purpose::Trace, asked.schedule, words, files);
-            print_answer(answer, out)
+            let given = asked.words.as_slice();
+            print_answer(
+                try_answer(alloc, Purpose::Trace, asked.schedule, given, files),
+                out,
+            )
         }
         Some(Command::Link(manifests)) => {
             print_answer(link_answer(alloc, manifests.as_slice(), files), out)

@@ -9,12 +9,12 @@ ghost use Rattle.vf_asking.specs.Journal.{seen};
 ghost use Rattle.vf_tool.specs.Verdict.{JudgedBy, Checked};
 
 use crate::reading::{Reading, read_file};
-use vf_report::Stop;
 use std::alloc::Global;
 use vf_asking::Asker;
 use vf_base::{Files, Memory, Refusal, RuleFault};
 use vf_definitions::Definitions;
 use vf_exec::check_main;
+use vf_report::Stop;
 use vf_snapshot::Snapshot;
 use vf_tree::Core;
 
