@@ -69,11 +69,7 @@ fn answer_of(alloc: Global, manifests: &[Manifest]) -> Result<Answered, Memory>
 /// # Errors
 ///
 /// Where a manifest is not there or could not be read, where a file has none, or where memory ran out.
-pub fn link_answer<F: Files>(
-    alloc: Global,
-    paths: &[&str],
-    files: &mut F,
-) -> Result<Answered, Stop>
+pub fn link_answer<F: Files>(alloc: Global, paths: &[&str], files: &mut F) -> Result<Answered, Stop>
     ensures answered { IfOk result (λ a. IfSome (F.contents files.old) (λ m. IsLinkAnswer m (texts paths.now) a.status a.text)) }
     ensures told { IfOk result (λ a. IsTold a.status) }
     ensures unreadable { IsErrOf result Stop.Unreadable → IfSome (F.contents files.old) (λ m. HasUnreadable m (texts paths.now)) }

@@ -1,15 +1,14 @@
 -- What the commands print that make no promise of safety.
-use Rattle.std.specs.Prelude.{◌≡◌, ◌⊎◌, ℕ, List, Option, Some, None}
-use Rattle.vf_base.specs.Outside.{FileMap, Contents, Takes, TakesFront}
+use Rattle.std.specs.Prelude.{◌≡◌, ◌⊎◌, ℕ, List, Option, None}
+use Rattle.vf_base.specs.Outside.{FileMap, Takes, TakesFront}
 use Rattle.vf_words.specs.Words.{IsLink, IsTrace, IsTry, IsUpgrade}
 use Rattle.vf_report.specs.declared.status.Status.{Status}
 use Rattle.vf_report.specs.declared.status.Status.TheVariants as statuses
-use Rattle.vf_report.specs.Lines.{upgraded_line}
 use Rattle.vf_report.specs.Loaded.{HasNoManifest, HasNoSchedule}
 use Rattle.std.specs.FinMap.{get}
 use Rattle.vf_try.specs.declared.purpose.Purpose.TheVariants.{Run, Trace}
 use Rattle.vf_try.specs.Answers as tries
-use Rattle.vf_manifest_commands.specs.Manifests.{HasUnreadable, IsLinkAnswer, LacksManifest, Upgrades}
+use Rattle.vf_manifest_commands.specs.Manifests.{HasUnreadable, IsLinkAnswer, LacksManifest}
 
 -- this is the status, and the text, of what the words ask for: a try or a trace of source files, or the linking of manifests
 pub data Answers (m : FileMap) (words : List (List ℕ)) : Status → List ℕ → Type 0 where

@@ -2,9 +2,9 @@
 use Rattle.std.proofs.Common.{◌≡◌, subst, sym, List, ℕ, None}
 use Rattle.std.specs.FinMap.{get}
 use Rattle.vf_base.specs.Outside.{FileMap}
-use Rattle.vf_words.specs.Commands.{Asks, owned, paths_of}
+use Rattle.vf_words.specs.Commands.{owned, paths_of}
 use Rattle.vf_words.specs.Positionals.{texts}
-use Rattle.vf_words.specs.Words.{AskNothing, IsLink, IsTrace, IsTry}
+use Rattle.vf_words.specs.Words.{IsLink, IsTrace, IsTry}
 use Rattle.vf_words.proofs.Alone.{one_file, one_schedule}
 use Rattle.vf_report.specs.Loaded.{HasNoManifest, HasNoSchedule, HasSchedule}
 use Rattle.vf_try.specs.Answers.{IsLackingOne}
