@@ -104,7 +104,7 @@ RESOLVED = [
             ('Close', '`close [s]p(..);`', [('share', 'option:own:Share'), ('head', 'own:Head'), ('arguments', 'terms')]),
             ('Leak', '`leak A;`', [('parts', 'parts')]),
             ('Assert', '`assert A;`', [('parts', 'parts')]),
-            ('Set', 'A value for a ghost local, which is declared here or assigned.', [('name', 'own:Slot'), ('value', 'tree:Term')]),
+            ('Set', 'A value for a ghost local, by its symbol, which is declared here or assigned.', [('name', 'tree:Term'), ('value', 'tree:Term')]),
             ('Call', 'A call of a lemma.', [('lemma', 'text'), ('arguments', 'terms')]),
             ('CallReal', 'A call of a function of C, which is refused.', []),
             ('If', '`if (e) { .. } else { .. }`', [('test', 'tree:Truth'), ('yes', 'list:Command'), ('no', 'list:Command')]),

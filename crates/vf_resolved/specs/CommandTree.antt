@@ -19,7 +19,7 @@ mutual
     close_ : Place → Option Share → Head → List Term → CommandTree
     leak_ : Place → List PartTree → CommandTree
     assert_ : Place → List PartTree → CommandTree
-    set : Place → Slot → Term → CommandTree
+    set : Place → Term → Term → CommandTree
     call_ : Place → List ℕ → List Term → CommandTree
     call_real : Place → CommandTree
     if_ : Place → TruthTree → CommandTrees → CommandTrees → CommandTree

@@ -32,8 +32,8 @@ pub enum CommandNode {
     Leak(Assertion),
     /// `assert A;`
     Assert(Assertion),
-    /// A value for a ghost local, which is declared here or assigned.
-    Set(Slot, Term),
+    /// A value for a ghost local, by its symbol, which is declared here or assigned.
+    Set(Term, Term),
     /// A call of a lemma.
     Call(Text, TermList),
     /// A call of a function of C, which is refused.

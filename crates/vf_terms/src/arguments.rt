@@ -91,7 +91,7 @@ pub fn settled_instance(
 }
 
 /// A name at a place as a value.
-pub(crate) fn named(
+pub fn named(
     setting: &Setting<'_>,
     next: usize,
     place: Place,

@@ -17,5 +17,6 @@ mod reading;
 pub mod setting;
 
 pub use expression::read;
+pub use forms::is_null;
 pub use reading::{Reading, Row};
 pub use setting::Setting;
