@@ -58,6 +58,7 @@ RESOLVED_LEAVES = {
     'Comparison': ('vf_core', 'words', 'Comparison'),
     'Slot': ('vf_resolved', 'pattern', 'Slot'),
     'Share': ('vf_resolved', 'pattern', 'Share'),
+    'Argument': ('vf_resolved', 'pattern', 'Argument'),
     'Pattern': ('vf_resolved', 'pattern', 'Pattern'),
     'Head': ('vf_resolved', 'head', 'Head'),
     'CellField': ('vf_resolved', 'head', 'CellField'),
@@ -101,7 +102,7 @@ RESOLVED = [
     ('command', 'Command', 'ghost commands', [
         ('Command', 'A ghost command, and the place of its first token.', [
             ('Open', '`open [s]p(..);`', [('share', 'option:own:Share'), ('head', 'own:Head'), ('arguments', 'seq:own:Pattern')]),
-            ('Close', '`close [s]p(..);`', [('share', 'option:own:Share'), ('head', 'own:Head'), ('arguments', 'terms')]),
+            ('Close', '`close [s]p(..);`', [('share', 'option:own:Share'), ('head', 'own:Head'), ('arguments', 'seq:own:Argument')]),
             ('Leak', '`leak A;`', [('parts', 'parts')]),
             ('Assert', '`assert A;`', [('parts', 'parts')]),
             ('Set', 'A value for a ghost local, by its symbol, which is declared here or assigned.', [('name', 'tree:Term'), ('value', 'tree:Term')]),

@@ -3,6 +3,7 @@
 use Rattle.std.proofs.Common.{◌≡◌, ℕ, List, ap, refl, arith}
 use Rattle.std.specs.Coded.{Coded, coded_ℕ, coded_list, coded_option}
 use base.Stored.{Gv, gnil, gnum, gcons, num as number_in}
+use Rattle.vf_resolved.specs.contracts.pattern.Argument as argument_row
 use Rattle.vf_resolved.specs.contracts.head.Head as head_row
 use Rattle.vf_resolved.specs.contracts.pattern.Pattern as pattern_row
 use Rattle.vf_base.specs.contracts.place.Place as place_row
@@ -19,7 +20,7 @@ abbrev mutual
   -- how it is stored
   pub command_code : CommandTree → Gv
   command_code (tree.open_ p a b c) = gcons (gnum 0) (gcons (place_row.the_row.coded.code p) (gcons ((coded_option share_row.the_row.coded).code a) (gcons (head_row.the_row.coded.code b) (gcons ((coded_list pattern_row.the_row.coded).code c) gnil))))
-  command_code (tree.close_ p a b c) = gcons (gnum 1) (gcons (place_row.the_row.coded.code p) (gcons ((coded_option share_row.the_row.coded).code a) (gcons (head_row.the_row.coded.code b) (gcons ((coded_list coded_term).code c) gnil))))
+  command_code (tree.close_ p a b c) = gcons (gnum 1) (gcons (place_row.the_row.coded.code p) (gcons ((coded_option share_row.the_row.coded).code a) (gcons (head_row.the_row.coded.code b) (gcons ((coded_list argument_row.the_row.coded).code c) gnil))))
   command_code (tree.leak_ p a) = gcons (gnum 2) (gcons (place_row.the_row.coded.code p) (gcons ((coded_list coded_part).code a) gnil))
   command_code (tree.assert_ p a) = gcons (gnum 3) (gcons (place_row.the_row.coded.code p) (gcons ((coded_list coded_part).code a) gnil))
   command_code (tree.set p a b) = gcons (gnum 4) (gcons (place_row.the_row.coded.code p) (gcons (coded_term.code a) (gcons (coded_term.code b) gnil)))
@@ -47,7 +48,7 @@ mutual
   -- what is stored alike is the same
   pub command_inj : (x y : CommandTree) → command_code x ≡ command_code y → x ≡ y
   command_inj (tree.open_ p a b c) (tree.open_ p' a' b' c') e = λ i. tree.open_ (place_row.the_row.coded.inj p p' (ap (λ g. head (tail g)) e) i) ((coded_option share_row.the_row.coded).inj a a' (ap (λ g. head (tail (tail g))) e) i) (head_row.the_row.coded.inj b b' (ap (λ g. head (tail (tail (tail g)))) e) i) ((coded_list pattern_row.the_row.coded).inj c c' (ap (λ g. head (tail (tail (tail (tail g))))) e) i)
-  command_inj (tree.close_ p a b c) (tree.close_ p' a' b' c') e = λ i. tree.close_ (place_row.the_row.coded.inj p p' (ap (λ g. head (tail g)) e) i) ((coded_option share_row.the_row.coded).inj a a' (ap (λ g. head (tail (tail g))) e) i) (head_row.the_row.coded.inj b b' (ap (λ g. head (tail (tail (tail g)))) e) i) ((coded_list coded_term).inj c c' (ap (λ g. head (tail (tail (tail (tail g))))) e) i)
+  command_inj (tree.close_ p a b c) (tree.close_ p' a' b' c') e = λ i. tree.close_ (place_row.the_row.coded.inj p p' (ap (λ g. head (tail g)) e) i) ((coded_option share_row.the_row.coded).inj a a' (ap (λ g. head (tail (tail g))) e) i) (head_row.the_row.coded.inj b b' (ap (λ g. head (tail (tail (tail g)))) e) i) ((coded_list argument_row.the_row.coded).inj c c' (ap (λ g. head (tail (tail (tail (tail g))))) e) i)
   command_inj (tree.leak_ p a) (tree.leak_ p' a') e = λ i. tree.leak_ (place_row.the_row.coded.inj p p' (ap (λ g. head (tail g)) e) i) ((coded_list coded_part).inj a a' (ap (λ g. head (tail (tail g))) e) i)
   command_inj (tree.assert_ p a) (tree.assert_ p' a') e = λ i. tree.assert_ (place_row.the_row.coded.inj p p' (ap (λ g. head (tail g)) e) i) ((coded_list coded_part).inj a a' (ap (λ g. head (tail (tail g))) e) i)
   command_inj (tree.set p a b) (tree.set p' a' b') e = λ i. tree.set (place_row.the_row.coded.inj p p' (ap (λ g. head (tail g)) e) i) (coded_term.inj a a' (ap (λ g. head (tail (tail g))) e) i) (coded_term.inj b b' (ap (λ g. head (tail (tail (tail g)))) e) i)

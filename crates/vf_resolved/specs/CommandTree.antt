@@ -3,6 +3,7 @@
 use Rattle.std.specs.Prelude.{ℕ, ◌+◌, ◌≤◌, List, [], ◌∷◌, Option}
 use Rattle.std.proofs.Common.{arith}
 use denote.Param.Weighed.{most}
+use Rattle.vf_resolved.specs.declared.pattern.Argument.{Argument}
 use Rattle.vf_resolved.specs.declared.head.Head.{Head}
 use Rattle.vf_resolved.specs.declared.pattern.Pattern.{Pattern}
 use Rattle.vf_base.specs.declared.place.Place.{Place}
@@ -16,7 +17,7 @@ mutual
   -- A ghost command, and the place of its first token.
   pub data CommandTree : Type 0 where
     open_ : Place → Option Share → Head → List Pattern → CommandTree
-    close_ : Place → Option Share → Head → List Term → CommandTree
+    close_ : Place → Option Share → Head → List Argument → CommandTree
     leak_ : Place → List PartTree → CommandTree
     assert_ : Place → List PartTree → CommandTree
     set : Place → Term → Term → CommandTree

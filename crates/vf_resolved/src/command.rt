@@ -6,7 +6,7 @@ ghost use Rattle.std.specs.Option.{option_copied};
 
 use crate::assertion::Assertion;
 use crate::head::Head;
-use crate::pattern::{Pattern, Share, Slot};
+use crate::pattern::{Argument, Pattern, Share, Slot};
 use crate::truth::Truth;
 use std::alloc::Global;
 use std::marker::Model;
@@ -27,7 +27,7 @@ pub enum CommandNode {
     /// `open [s]p(..);`
     Open(Option<Share>, Head, Sequence<Pattern>),
     /// `close [s]p(..);`
-    Close(Option<Share>, Head, TermList),
+    Close(Option<Share>, Head, Sequence<Argument>),
     /// `leak A;`
     Leak(Assertion),
     /// `assert A;`

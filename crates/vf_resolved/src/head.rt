@@ -1,7 +1,8 @@
 //! What chunks and cells are of.
 
-use vf_base::{IntType, Text};
-use vf_formula::{Term, TermList};
+use crate::pattern::Argument;
+use vf_base::{IntType, Sequence, Text};
+use vf_formula::Term;
 
 /// What a chunk is of. Structs, predicates and families go by their identities.
 #[derive(Drop)]
@@ -11,9 +12,9 @@ pub enum Head {
     /// A predicate.
     Predicate(Text),
     /// A family at an index.
-    Family(Text, Term),
+    Family(Text, Argument),
     /// A predicate constructor at its first arguments.
-    Constructor(Text, TermList),
+    Constructor(Text, Sequence<Argument>),
     /// A predicate that a value of ghost text is.
     Value(Term),
 }

@@ -31,11 +31,19 @@ pub enum Factor {
     Named(Term),
 }
 
+/// A value of a sort: its term, and the kind of the sort, which may be another than that of the term where the sort is
+/// `any`.
+#[derive(Drop)]
+pub struct Argument {
+    pub kind: Kind,
+    pub term: Term,
+}
+
 /// What an argument of a chunk or the content of a cell is to be.
 #[derive(Drop)]
 pub enum Pattern {
-    /// The value of a term.
-    Is(Term),
+    /// This value.
+    Is(Argument),
     /// `?x`: any value, which the name stands for from there on.
     Binds(Slot),
     /// `_`: anything of this kind.

@@ -35,13 +35,14 @@ use Rattle.vf_terms.specs.Named.{declaration_seen, identity_of, term_of_name}
 use Rattle.vf_terms.specs.Readings.{in_front, no_row, read}
 use Rattle.vf_terms.specs.declared.reading.Reading.{Reading}
 use Rattle.vf_terms.specs.declared.reading.Row.{Row}
+use Rattle.vf_resolved.specs.declared.pattern.Argument.{Argument}
 use Rattle.vf_resolved.specs.TruthTree.{TruthTree}
 use Rattle.vf_resolved.specs.CommandTree.{CommandTree, CommandBranchTree, command_list, command_branch_list}
 use Rattle.vf_resolved.specs.CommandTree as tree
 use Rattle.vf_resolved_parts.specs.Heads.{form_of, head_for}
 use Rattle.vf_resolved_parts.specs.Names.{slot_for, symbol_for}
-use Rattle.vf_resolved_parts.specs.Parts.{ArgumentsRead, beginning, pairs_read, patterns_or_none}
-use Rattle.vf_resolved_parts.specs.Patterns.{passed, values_read}
+use Rattle.vf_resolved_parts.specs.Parts.{PairsRead, beginning, pairs_read, patterns_or_none}
+use Rattle.vf_resolved_parts.specs.Patterns.{ArgumentsRead, arguments_read, passed}
 use Rattle.vf_resolved_parts.specs.Shares.{ShareRead, share_read}
 use Rattle.vf_resolved_parts.specs.Truths.{truth}
 use Rattle.vf_resolved_parts.specs.declared.heads.Form.{Form}
@@ -75,7 +76,7 @@ taken_or_none None = with_arguments []
 taken_or_none (Some t) = t
 
 -- `open` whose share is read, by what its name takes and is
-abbrev pub opened : Around → Standing → Place → ShareRead → Form → ArgumentsRead → CommandResolved
+abbrev pub opened : Around → Standing → Place → ShareRead → Form → PairsRead → CommandResolved
 opened a s p h f xs = record { command = tree.open_ p h.share (head_for f xs.first) xs.arguments.patterns; standing = behind a xs.arguments.progress s }
 
 abbrev pub open_taken : Around → Standing → Place → Name → List Pattern → Option (List Pattern) → ShareRead → ChunkSorts → CommandResolved
@@ -85,24 +86,24 @@ abbrev pub open_resolved : Around → Standing → Place → Option Share → Na
 open_resolved a s p h n xs ys =
     open_taken a s p n xs ys (share_read (setting_at a s) (length s.sorts) (beginning s.next) h) (taken_or_none (chunk_takes s.scope a.known n))
 
--- the terms in one or two pairs of parentheses in which expressions alone stand: those of the first of two pairs, and the others
-pub record PairsOfTerms : Type 0 where
-  pub first : List Term
-  pub others : Row
+-- the values in one or two pairs of parentheses in which expressions alone stand: those of the first of two pairs, and the others
+pub record ValuesRead : Type 0 where
+  pub first : List Argument
+  pub others : ArgumentsRead
 
-abbrev pub second_terms : Setting → List Sort → List Pattern → Row → PairsOfTerms
-second_terms s ts ys row = record { first = row.terms; others = values_read s ts row.next ys }
+abbrev pub second_values : Setting → List Sort → List Pattern → ArgumentsRead → ValuesRead
+second_values s ts ys xs = record { first = xs.arguments; others = arguments_read s ts xs.next ys }
 
-abbrev pub pairs_of_terms : Setting → ℕ → Option (List Sort) → List Sort → List Pattern → Option (List Pattern) → PairsOfTerms
-pairs_of_terms s u None ts xs ys = record { first = []; others = values_read s ts u xs }
-pairs_of_terms s u (Some hs) ts xs ys = second_terms s ts (patterns_or_none ys) (values_read s hs u xs)
+abbrev pub values_read : Setting → ℕ → Option (List Sort) → List Sort → List Pattern → Option (List Pattern) → ValuesRead
+values_read s u None ts xs ys = record { first = []; others = arguments_read s ts u xs }
+values_read s u (Some hs) ts xs ys = second_values s ts (patterns_or_none ys) (arguments_read s hs u xs)
 
 -- `close` whose share is read
-abbrev pub closed : Standing → Place → ShareRead → Form → PairsOfTerms → CommandResolved
-closed s p h f xs = record { command = tree.close_ p h.share (head_for f xs.first) xs.others.terms; standing = counting xs.others.next s }
+abbrev pub closed : Standing → Place → ShareRead → Form → ValuesRead → CommandResolved
+closed s p h f xs = record { command = tree.close_ p h.share (head_for f xs.first) xs.others.arguments; standing = counting xs.others.next s }
 
 abbrev pub close_taken : Around → Standing → Place → Name → List Pattern → Option (List Pattern) → ShareRead → ChunkSorts → CommandResolved
-close_taken a s p n xs ys h t = closed s p h (form_of (setting_at a s) n) (pairs_of_terms (setting_at a s) h.progress.next t.heads t.arguments xs ys)
+close_taken a s p n xs ys h t = closed s p h (form_of (setting_at a s) n) (values_read (setting_at a s) h.progress.next t.heads t.arguments xs ys)
 
 abbrev pub close_resolved : Around → Standing → Place → Option Share → Name → List Pattern → Option (List Pattern) → CommandResolved
 close_resolved a s p h n xs ys =

@@ -3,23 +3,23 @@
 ghost use Rattle.std.specs.Prelude.{◌≡◌, IfOk};
 ghost use Rattle.vf_terms.specs.Settings.{setting_of};
 ghost use Rattle.vf_resolving.specs.Standings.{around_of, standing_of};
-ghost use Rattle.vf_resolved_commands.specs.Commands.{close_resolved, open_resolved, pairs_of_terms, taken_or_none};
+ghost use Rattle.vf_resolved_commands.specs.Commands.{close_resolved, open_resolved, taken_or_none, values_read};
 
 use std::alloc::Global;
 use vf_base::{Memory, Place, Sequence};
 use vf_binding::chunk_sorts::{ChunkSorts, chunk_takes};
-use vf_formula::TermList;
 use vf_resolved::command::{Command, CommandNode};
+use vf_resolved::pattern::Argument;
 use vf_resolved_parts::heads::{form_of, head_for};
 use vf_resolved_parts::parts::{beginning, pairs_read};
-use vf_resolved_parts::patterns::values_read;
+use vf_resolved_parts::patterns::{Arguments, arguments_read};
 use vf_resolved_parts::shares::share_read;
 use vf_resolving::standing::{put_behind, setting};
 use vf_resolving::{Around, Standing};
 use vf_sorts::SortList;
 use vf_syntax::pattern::{Pattern, Share};
 use vf_syntax::written::Name;
-use vf_terms::{Row, Setting};
+use vf_terms::Setting;
 
 /// What a name takes; where it takes nothing, no arguments.
 fn taken_or_none(alloc: Global, taken: Option<ChunkSorts>) -> ChunkSorts
@@ -63,42 +63,42 @@ pub fn open_resolved(
     })
 }
 
-/// The terms in one or two pairs of parentheses in which expressions alone stand: those of the first of two pairs, and
+/// The values in one or two pairs of parentheses in which expressions alone stand: those of the first of two pairs, and
 /// the others.
 #[derive(Drop)]
-struct PairsOfTerms {
-    first: TermList,
-    others: Row,
+struct Values {
+    first: Sequence<Argument>,
+    others: Arguments,
 }
 
-/// The terms in one or two pairs of parentheses, by what a chunk takes.
-fn pairs_of_terms(
+/// The values in one or two pairs of parentheses, by what a chunk takes.
+fn values_read(
     setting: &Setting<'_>,
     next: usize,
     taken: &ChunkSorts,
     one: &Sequence<Pattern>,
     two: &Option<Sequence<Pattern>>,
-) -> Result<PairsOfTerms, Memory>
-    ensures { IfOk result (λ x. pairs_of_terms (setting_of setting.now) next taken.now.heads taken.now.arguments one.now two.now ≡ record { first = x.first; others = x.others }) }
+) -> Result<Values, Memory>
+    ensures { IfOk result (λ x. values_read (setting_of setting.now) next taken.now.heads taken.now.arguments one.now two.now ≡ record { first = x.first; others = record { arguments = x.others.arguments; next = x.others.next } }) }
 {
     match &taken.heads {
         None => {
-            let others = values_read(setting, &taken.arguments, next, one)?;
-            Ok(PairsOfTerms {
-                first: TermList::new(setting.alloc),
+            let others = arguments_read(setting, &taken.arguments, next, one)?;
+            Ok(Values {
+                first: Sequence::new(setting.alloc),
                 others,
             })
         }
         Some(heads) => {
-            let row = values_read(setting, heads, next, one)?;
+            let row = arguments_read(setting, heads, next, one)?;
             let none = Sequence::new(setting.alloc);
             let patterns = match two {
                 Some(patterns) => patterns,
                 None => &none,
             };
-            let others = values_read(setting, &taken.arguments, row.next, patterns)?;
-            Ok(PairsOfTerms {
-                first: row.terms,
+            let others = arguments_read(setting, &taken.arguments, row.next, patterns)?;
+            Ok(Values {
+                first: row.arguments,
                 others,
             })
         }
@@ -124,12 +124,12 @@ pub fn close_resolved(
     let share = share_read(&setting, many, &mut progress, share)?;
     let taken = chunk_takes(alloc, &standing.scope, around.unknowns, name)?;
     let taken = taken_or_none(alloc, taken);
-    let pairs = pairs_of_terms(&setting, progress.next, &taken, one, two)?;
+    let pairs = values_read(&setting, progress.next, &taken, one, two)?;
     let form = form_of(&setting, name)?;
     let head = head_for(alloc, form, pairs.first)?;
     standing.next = pairs.others.next;
     Ok(Command {
         place,
-        node: CommandNode::Close(share, head, pairs.others.terms),
+        node: CommandNode::Close(share, head, pairs.others.arguments),
     })
 }

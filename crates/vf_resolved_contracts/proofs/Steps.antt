@@ -19,9 +19,9 @@ use Rattle.vf_asserting.specs.IsRefused.{AnyPartFails}
 use Rattle.vf_asserting.specs.Leaving.{count, left}
 use Rattle.vf_asserting.proofs.Wholes.{gone}
 use Rattle.vf_contracts.specs.Comes as contracts
-use Rattle.vf_resolved.specs.declared.contract.Body.{Body}
-use Rattle.vf_resolved_contracts.specs.declared.contracts.ContractRead.{ContractRead}
-use Rattle.vf_resolved_contracts.specs.Reading.{body_read, contract_read}
+use Rattle.vf_resolved_contracts.specs.declared.bodies.BodyRead as code_bodies
+use Rattle.vf_resolved_contracts.specs.declared.contracts.ContractRead as code
+use Rattle.vf_resolved_contracts.specs.Reading.{BodyRead, ContractRead, body_read, body_read_of, contract_read, read_of}
 use Rattle.vf_resolved_contracts.specs.Resolves.{BodyKnows, BodyResolves, ContractKnows, ContractResolves, IsBodyKnown, IsBodyResolved, IsContractKnown, IsContractResolved}
 use Rattle.vf_resolved_contracts.specs.Resolves as resolved
 
@@ -51,13 +51,13 @@ contract_known {c = c} {d = d} {x = x} {s = s} {s₂ = s₂} {k₂ = k₂} {m = 
     let is : record s₂ { locals = l } ≡ left (count s) s₂ = ap (λ (y : Locals). record s₂ { locals = y }) (f ∙ ap (first_locals s₂.locals) n) in
     subst (λ (t : Scope). IsContractKnown c d x s (Ok k₂) t) (sym is) (record { answers = resolved.ContractKnows.knows (given x.precondition w i) j.answers.1 })
 
-pub memory_of_contract : {c d : Context} {paths : List (List ℕ)} {x : Contract} {s : Scope} {res : Result ContractRead RuleFault} → res ≡ Err faults.Memory → IsContractResolved c d paths x s res
+pub memory_of_contract : {c d : Context} {paths : List (List ℕ)} {x : Contract} {s : Scope} {res : Result code.ContractRead RuleFault} → res ≡ Err faults.Memory → IsContractResolved c d paths x s res
 memory_of_contract q = record { answers = wanting _ _ q }
 
-pub contract_fails : {c d : Context} {paths : List (List ℕ)} {x : Contract} {s t : Scope} {res : Result ContractRead RuleFault} (e : RuleFault) → IsContractKnown c d x s (Err e) t → res ≡ Err e → IsContractResolved c d paths x s res
+pub contract_fails : {c d : Context} {paths : List (List ℕ)} {x : Contract} {s t : Scope} {res : Result code.ContractRead RuleFault} (e : RuleFault) → IsContractKnown c d x s (Err e) t → res ≡ Err e → IsContractResolved c d paths x s res
 contract_fails e i q = record { answers = failing _ _ _ e (λ r h. h) i.answers q }
 
-pub contract_resolves : {c d : Context} {paths : List (List ℕ)} {x : Contract} {s t : Scope} {k : Known} {y : ContractRead} → IsContractKnown c d x s (Ok k) t → y ≡ contract_read c d k paths x t → IsContractResolved c d paths x s (Ok y)
+pub contract_resolves : {c d : Context} {paths : List (List ℕ)} {x : Contract} {s t : Scope} {k : Known} {y : code.ContractRead} → IsContractKnown c d x s (Ok k) t → read_of y ≡ contract_read c d k paths x t → IsContractResolved c d paths x s (Ok y)
 contract_resolves {c = c} {d = d} {paths = paths} {x = x} {s = s} i f =
     record { answers = subst (λ (z : ContractRead). ContractResolves c d paths x s z) (sym f) (resolved.ContractResolves.resolves i.answers) }
 
@@ -71,12 +71,12 @@ body_known {c = c} {xs = xs} {s = s} {s₁ = s₁} {k₁ = k₁} {m = m} {l = l}
     let is : record s₁ { locals = l } ≡ left (count s) s₁ = ap (λ (y : Locals). record s₁ { locals = y }) (f ∙ ap (first_locals s₁.locals) n) in
     subst (λ (t : Scope). IsBodyKnown c xs s (Ok k₁) t) (sym is) (record { answers = resolved.BodyKnows.knows (given xs w i) })
 
-pub memory_of_body : {c : Context} {paths : List (List ℕ)} {xs : List PartTree} {s : Scope} {res : Result Body RuleFault} → res ≡ Err faults.Memory → IsBodyResolved c paths xs s res
+pub memory_of_body : {c : Context} {paths : List (List ℕ)} {xs : List PartTree} {s : Scope} {res : Result code_bodies.BodyRead RuleFault} → res ≡ Err faults.Memory → IsBodyResolved c paths xs s res
 memory_of_body q = record { answers = wanting _ _ q }
 
-pub body_stops : {c : Context} {paths : List (List ℕ)} {xs : List PartTree} {s t : Scope} {res : Result Body RuleFault} (e : RuleFault) → IsBodyKnown c xs s (Err e) t → res ≡ Err e → IsBodyResolved c paths xs s res
+pub body_stops : {c : Context} {paths : List (List ℕ)} {xs : List PartTree} {s t : Scope} {res : Result code_bodies.BodyRead RuleFault} (e : RuleFault) → IsBodyKnown c xs s (Err e) t → res ≡ Err e → IsBodyResolved c paths xs s res
 body_stops e i q = record { answers = failing _ _ _ e (λ r h. h) i.answers q }
 
-pub body_resolves : {c : Context} {paths : List (List ℕ)} {xs : List PartTree} {s t : Scope} {k : Known} {y : Body} → IsBodyKnown c xs s (Ok k) t → y ≡ body_read c k paths xs t → IsBodyResolved c paths xs s (Ok y)
+pub body_resolves : {c : Context} {paths : List (List ℕ)} {xs : List PartTree} {s t : Scope} {k : Known} {y : code_bodies.BodyRead} → IsBodyKnown c xs s (Ok k) t → body_read_of y ≡ body_read c k paths xs t → IsBodyResolved c paths xs s (Ok y)
 body_resolves {c = c} {paths = paths} {xs = xs} {s = s} i f =
-    record { answers = subst (λ (z : Body). BodyResolves c paths xs s z) (sym f) (resolved.BodyResolves.resolves i.answers) }
+    record { answers = subst (λ (z : BodyRead). BodyResolves c paths xs s z) (sym f) (resolved.BodyResolves.resolves i.answers) }

@@ -10,15 +10,16 @@ use Rattle.vf_syntax.specs.declared.contract.Contract as written
 use Rattle.vf_syntax.specs.AssertionTree.{PartTree, part_list}
 use Rattle.vf_sorting.specs.declared.context.Context.{Context}
 use Rattle.vf_sorting.specs.Schemes.{sort_of_local}
-use Rattle.vf_asserting.specs.Leaving.{count, left}
+use Rattle.vf_asserting.specs.Leaving.{count}
 use Rattle.vf_terms.specs.Settings.{kind_of_sort}
 use Rattle.vf_terms.specs.Readings.{sort_or_int}
 use Rattle.vf_resolved.specs.declared.contract.Body.{Body}
 use Rattle.vf_resolved.specs.declared.contract.Contract.{Contract}
 use Rattle.vf_resolved.specs.declared.contract.Names.{Names}
-use Rattle.vf_resolving.specs.Standings.{Around, Standing, with_sorts}
+use Rattle.vf_resolving.specs.Standings.{Around, Standing, leaving, standing_of, with_sorts}
 use Rattle.vf_resolving.specs.Assertions.{PartsResolved, parts_resolved}
-use Rattle.vf_resolved_contracts.specs.declared.contracts.ContractRead.{ContractRead}
+use Rattle.vf_resolved_contracts.specs.declared.contracts.ContractRead as code
+use Rattle.vf_resolved_contracts.specs.declared.bodies.BodyRead as code_bodies
 
 -- the symbol of `result`, of the kind of its sort
 abbrev pub result_symbol : Context → Term
@@ -54,11 +55,20 @@ starting a s = with_sorts a (map sort_of_local s.locals.meanings) (unnumbered s)
 abbrev pub names_of : ℕ → Standing → Names
 names_of n s = record { sorts = s.sorts; parameters = n }
 
--- a contract behind its parameters, whose names are numbered, and what is declared behind it
+-- a contract behind its parameters, and what is declared and numbered behind it: the names of its postcondition are gone, and keep their numbers
+pub record ContractRead : Type 0 where
+  pub contract : Contract
+  pub standing : Standing
+
+-- the same as the code has it
+abbrev pub read_of : code.ContractRead → ContractRead
+read_of x = record { contract = x.contract; standing = standing_of x.standing }
+
+-- a contract whose conditions are resolved
 abbrev pub contract_of : ℕ → Place → PartsResolved → PartsResolved → ContractRead
 contract_of n p xs ys = record {
   contract = record { place = p; names = names_of n ys.standing; precondition = xs.parts; postcondition = ys.parts };
-  scope = left (count xs.standing.scope) ys.standing.scope;
+  standing = leaving (count xs.standing.scope) ys.standing;
 }
 
 -- the same where its precondition is resolved
@@ -70,9 +80,18 @@ abbrev pub contract_read : Context → Context → Known → List (List ℕ) →
 contract_read c d k paths x s =
     postcondition_read (around_with d k paths) (count s) x (parts_resolved (around_with c k paths) (starting (around_with c k paths) s) (part_list x.precondition))
 
--- the body of a predicate behind its parameters
-abbrev pub body_of : ℕ → PartsResolved → Body
-body_of n xs = record { names = names_of n xs.standing; assertion = xs.parts }
+-- the body of a predicate behind its parameters, or an invariant, and what is declared and numbered behind it
+pub record BodyRead : Type 0 where
+  pub body : Body
+  pub standing : Standing
 
-abbrev pub body_read : Context → Known → List (List ℕ) → List PartTree → Scope → Body
+-- the same as the code has it
+abbrev pub body_read_of : code_bodies.BodyRead → BodyRead
+body_read_of x = record { body = x.body; standing = standing_of x.standing }
+
+-- a body whose assertion is resolved
+abbrev pub body_of : ℕ → PartsResolved → BodyRead
+body_of n xs = record { body = record { names = names_of n xs.standing; assertion = xs.parts }; standing = xs.standing }
+
+abbrev pub body_read : Context → Known → List (List ℕ) → List PartTree → Scope → BodyRead
 body_read c k paths xs s = body_of (count s) (parts_resolved (around_with c k paths) (starting (around_with c k paths) s) (part_list xs))

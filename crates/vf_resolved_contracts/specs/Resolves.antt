@@ -13,9 +13,9 @@ use Rattle.vf_asserting.specs.Gives.{Gives}
 use Rattle.vf_asserting.specs.IsRefused.{AnyPartFails}
 use Rattle.vf_asserting.specs.Leaving.{count, left}
 use Rattle.vf_contracts.specs.Comes.{ContractFails}
-use Rattle.vf_resolved.specs.declared.contract.Body.{Body}
-use Rattle.vf_resolved_contracts.specs.declared.contracts.ContractRead.{ContractRead}
-use Rattle.vf_resolved_contracts.specs.Reading.{body_read, contract_read}
+use Rattle.vf_resolved_contracts.specs.declared.contracts.ContractRead as code
+use Rattle.vf_resolved_contracts.specs.declared.bodies.BodyRead as code_bodies
+use Rattle.vf_resolved_contracts.specs.Reading.{BodyRead, ContractRead, body_read, body_read_of, contract_read, read_of}
 
 -- what is known of unknown sorts behind a contract, whose names are gone
 pub data ContractKnows (c d : Context) (x : written.Contract) (s : Scope) : Known → Scope → Type 0 where
@@ -30,15 +30,15 @@ pub record IsContractKnown (c d : Context) (x : written.Contract) (s : Scope) (r
   pub answers : Answers (λ k. ContractKnows c d x s k t) (ContractFails c d x s) r
 
 -- an answer for a contract is its resolved tree and what is declared behind it, or its refusal
-pub record IsContractResolved (c d : Context) (paths : List (List ℕ)) (x : written.Contract) (s : Scope) (r : Result ContractRead RuleFault) : Type 0 where
-  pub answers : Answers (ContractResolves c d paths x s) (ContractFails c d x s) r
+pub record IsContractResolved (c d : Context) (paths : List (List ℕ)) (x : written.Contract) (s : Scope) (r : Result code.ContractRead RuleFault) : Type 0 where
+  pub answers : Answers (λ y. ContractResolves c d paths x s (read_of y)) (ContractFails c d x s) r
 
 -- what is known of unknown sorts behind the body of a predicate, whose names are gone
 pub data BodyKnows (c : Context) (xs : List PartTree) (s : Scope) : Known → Scope → Type 0 where
   knows : {s' : Scope} {k : Known} → Gives c s [] (part_list xs) s' k → BodyKnows c xs s k (left (count s) s')
 
 -- the body of a predicate is resolved with it
-pub data BodyResolves (c : Context) (paths : List (List ℕ)) (xs : List PartTree) (s : Scope) : Body → Type 0 where
+pub data BodyResolves (c : Context) (paths : List (List ℕ)) (xs : List PartTree) (s : Scope) : BodyRead → Type 0 where
   resolves : {t : Scope} {k : Known} → BodyKnows c xs s k t → BodyResolves c paths xs s (body_read c k paths xs t)
 
 -- an answer for what is known behind a body
@@ -46,5 +46,5 @@ pub record IsBodyKnown (c : Context) (xs : List PartTree) (s : Scope) (r : Resul
   pub answers : Answers (λ k. BodyKnows c xs s k t) (AnyPartFails c s [] (part_list xs)) r
 
 -- an answer for a body is its resolved tree, or its refusal
-pub record IsBodyResolved (c : Context) (paths : List (List ℕ)) (xs : List PartTree) (s : Scope) (r : Result Body RuleFault) : Type 0 where
-  pub answers : Answers (BodyResolves c paths xs s) (AnyPartFails c s [] (part_list xs)) r
+pub record IsBodyResolved (c : Context) (paths : List (List ℕ)) (xs : List PartTree) (s : Scope) (r : Result code_bodies.BodyRead RuleFault) : Type 0 where
+  pub answers : Answers (λ y. BodyResolves c paths xs s (body_read_of y)) (AnyPartFails c s [] (part_list xs)) r

@@ -1,7 +1,7 @@
 //! Bodies of predicates.
 
 ghost use Rattle.std.specs.Prelude.{◌≡◌, IfOk};
-ghost use Rattle.vf_resolved_contracts.specs.Reading.{body_read};
+ghost use Rattle.vf_resolved_contracts.specs.Reading.{body_read, body_read_of};
 ghost use Rattle.vf_resolved_contracts.specs.Resolves.{IsBodyKnown, IsBodyResolved};
 
 use crate::starting::starting;
@@ -11,10 +11,17 @@ use vf_asserting::assertion_given;
 use vf_base::{Memory, RuleFault, Text};
 use vf_declared::scope::Scope;
 use vf_resolved::contract::{Body, Names};
-use vf_resolving::{Around, assertion_resolved};
+use vf_resolving::{Around, Standing, assertion_resolved};
 use vf_sorting::Context;
 use vf_sorts::Unknowns;
 use vf_syntax::assertion::Assertion;
+
+/// The body of a predicate, or an invariant, and what is declared and numbered behind it.
+#[derive(Drop)]
+pub struct BodyRead {
+    pub body: Body,
+    pub standing: Standing,
+}
 
 /// What is known of unknown sorts behind the body of a predicate, whose names are gone; or its refusal.
 #[tactic(auto, using(crate::proofs::Steps::body_fails, crate::proofs::Steps::body_known))]
@@ -41,8 +48,8 @@ fn body_read(
     paths: &[Text],
     context: &Context,
     body: &Assertion,
-) -> Result<Body, Memory>
-    ensures { IfOk result (λ x. x ≡ body_read context.now unknowns.now paths.now body.now scope) }
+) -> Result<BodyRead, Memory>
+    ensures { IfOk result (λ x. body_read_of x ≡ body_read context.now unknowns.now paths.now body.now scope) }
 {
     let parameters = scope.locals.names.len();
     let result = result_symbol(alloc, context);
@@ -59,12 +66,13 @@ fn body_read(
     };
     let mut standing = starting(&around, scope)?;
     let assertion = assertion_resolved(&around, &mut standing, body)?;
-    Ok(Body {
-        names: Names {
-            sorts: standing.sorts,
-            parameters,
+    let sorts = standing.sorts.copy(alloc)?;
+    Ok(BodyRead {
+        body: Body {
+            names: Names { sorts, parameters },
+            assertion,
         },
-        assertion,
+        standing,
     })
 }
 
@@ -80,7 +88,7 @@ pub fn body_resolved(
     paths: &[Text],
     context: &Context,
     body: &Assertion,
-) -> Result<Body, RuleFault>
+) -> Result<BodyRead, RuleFault>
     ensures { IsBodyResolved context.now paths.now body.now scope result }
 {
     let mut around = scope;

@@ -1,7 +1,7 @@
 //! Contracts.
 
 ghost use Rattle.std.specs.Prelude.{◌≡◌, IfOk};
-ghost use Rattle.vf_resolved_contracts.specs.Reading.{contract_read};
+ghost use Rattle.vf_resolved_contracts.specs.Reading.{contract_read, read_of};
 ghost use Rattle.vf_resolved_contracts.specs.Resolves.{IsContractKnown, IsContractResolved};
 
 use crate::starting::starting;
@@ -11,16 +11,18 @@ use vf_asserting::assertion_given;
 use vf_base::{Memory, RuleFault, Text};
 use vf_declared::scope::Scope;
 use vf_resolved::contract::{Contract, Names};
-use vf_resolving::{Around, assertion_resolved};
+use vf_resolving::standing::leave;
+use vf_resolving::{Around, Standing, assertion_resolved};
 use vf_sorting::Context;
 use vf_sorts::Unknowns;
 use vf_syntax::contract::Contract as Written;
 
-/// A contract, and what is declared behind it.
+/// A contract, and what is declared and numbered behind it: the names of its postcondition are gone, and keep their
+/// numbers.
 #[derive(Drop)]
 pub struct ContractRead {
     pub contract: Contract,
-    pub scope: Scope,
+    pub standing: Standing,
 }
 
 /// What is known of unknown sorts behind a contract, whose names are gone; or its refusal.
@@ -52,7 +54,7 @@ fn contract_read(
     after: &Context,
     contract: &Written,
 ) -> Result<ContractRead, Memory>
-    ensures { IfOk result (λ x. x ≡ contract_read before.now after.now unknowns.now paths.now contract.now scope) }
+    ensures { IfOk result (λ x. read_of x ≡ contract_read before.now after.now unknowns.now paths.now contract.now scope) }
 {
     let parameters = scope.locals.names.len();
     let this_value = this_symbol(alloc);
@@ -81,18 +83,16 @@ fn contract_read(
         thread: &thread,
     };
     let postcondition = assertion_resolved(&behind, &mut standing, &contract.postcondition)?;
-    standing.scope.locals.leave(count);
+    leave(&mut standing, count);
+    let sorts = standing.sorts.copy(alloc)?;
     Ok(ContractRead {
         contract: Contract {
             place: contract.place,
-            names: Names {
-                sorts: standing.sorts,
-                parameters,
-            },
+            names: Names { sorts, parameters },
             precondition,
             postcondition,
         },
-        scope: standing.scope,
+        standing,
     })
 }
 

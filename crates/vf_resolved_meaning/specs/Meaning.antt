@@ -4,19 +4,19 @@ use Rattle.vf_core.specs.Shown.{comparison_of}
 use Rattle.vf_tree.specs.Core.{Identity, Field}
 use Rattle.vf_model.specs.Values.{Dyadic}
 use Rattle.vf_meaning.specs.Fractions.{half, product, reduced, whole}
-use Rattle.vf_meaning.specs.Ghost.{Name, Numbered, Result, GhostExpression, PredicateValue, Compare, Not, And, Or}
+use Rattle.vf_meaning.specs.Ghost.{Name, Numbered, Result, GhostExpression, GhostExpressions, no_expressions, and_expression, PredicateValue, Compare, Not, And, Or}
 use Rattle.vf_meaning.specs.Ghost as ghosts
 use Rattle.vf_meaning.specs.Assertions.{ShareTree, Times, Taken, PatternTree, Is, Names, Wild, BlockOf, Named, Family, Applied, Assertion, Pure, Empty, Both, Switch, Cell, Chunk, Branches, no_branches}
 use Rattle.vf_meaning.specs.Assertions as assertions
 use Rattle.vf_closure.specs.Terms.{Symbol, Term, term}
-use Rattle.vf_formula.specs.Rows.{row}
-use Rattle.vf_entailment.specs.Meant.{meant, all_meant}
+use Rattle.vf_entailment.specs.Meant.{meant}
 use Rattle.vf_resolved.specs.TruthTree.{TruthTree, value, comparison, not_, and_, or_, choice}
 use Rattle.vf_resolved.specs.AssertionTree.{PartTree, PartTrees, no_part, more_part, BranchTree, BranchTrees, no_branch, more_branch, branch}
 use Rattle.vf_resolved.specs.AssertionTree as tree
 use Rattle.vf_resolved.specs.declared.head.CellField.{CellField}
 use Rattle.vf_resolved.specs.declared.head.Head.{Head}
 use Rattle.vf_resolved.specs.declared.head.Head.TheVariants as heads
+use Rattle.vf_resolved.specs.declared.pattern.Argument.{Argument}
 use Rattle.vf_resolved.specs.declared.pattern.Factor.{Factor}
 use Rattle.vf_resolved.specs.declared.pattern.Factor.TheVariants as factors
 use Rattle.vf_resolved.specs.declared.pattern.Pattern.{Pattern}
@@ -76,16 +76,21 @@ share_meant (Some (shares.Product fs)) = Times (fractions_meant fs) (all_names_m
 
 -- what a pattern asks
 abbrev pub pattern_meant : Pattern → PatternTree
-pattern_meant (patterns.Is t) = Is (meant t)
+pattern_meant (patterns.Is x) = Is (meant x.term)
 pattern_meant (patterns.Binds x) = Names (name_of x)
 pattern_meant (patterns.Wild k) = Wild
+
+-- values in a row
+abbrev pub arguments_meant : List Argument → GhostExpressions
+arguments_meant [] = no_expressions
+arguments_meant (x ∷ xs) = and_expression (meant x.term) (arguments_meant xs)
 
 -- what a chunk is of
 abbrev pub head_meant : Head → assertions.Head
 head_meant (heads.Block g) = BlockOf g
 head_meant (heads.Predicate q) = Named q
-head_meant (heads.Family q t) = Family q (meant t)
-head_meant (heads.Constructor q ts) = Applied (PredicateValue q (all_meant (row ts)))
+head_meant (heads.Family q x) = Family q (meant x.term)
+head_meant (heads.Constructor q xs) = Applied (PredicateValue q (arguments_meant xs))
 head_meant (heads.Value t) = Applied (meant t)
 
 -- the field that a cell is of

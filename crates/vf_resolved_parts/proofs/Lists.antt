@@ -9,9 +9,10 @@ use Rattle.vf_terms.specs.Settings.{Setting}
 use Rattle.vf_terms.specs.Readings.{in_front}
 use Rattle.vf_terms.specs.declared.reading.Reading.{Reading}
 use Rattle.vf_terms.specs.declared.reading.Row.{Row}
+use Rattle.vf_resolved.specs.declared.pattern.Argument.{Argument}
 use Rattle.vf_resolved.specs.declared.pattern.Factor as factors
 use Rattle.vf_resolved.specs.declared.pattern.Pattern as resolved
-use Rattle.vf_resolved_parts.specs.Patterns.{PatternRead, PatternsRead, pattern_in_front, pattern_read, patterns_read, value_read, values_read}
+use Rattle.vf_resolved_parts.specs.Patterns.{ArgumentsRead, PatternRead, PatternsRead, argument_in_front, argument_of, arguments_read, pattern_in_front, pattern_read, patterns_read, value_read, values_read}
 use Rattle.vf_resolved_parts.specs.Shares.{FactorRead, FactorsRead, factor_in_front, factor_read, links_read}
 use Rattle.vf_resolved_parts.specs.declared.progress.Progress.{Progress}
 
@@ -55,6 +56,26 @@ more_values s ts xs i u t x before y w e f is h =
     one_term before y.term (values_read s (drop (i + 1) ts) y.next (drop (i + 1) xs))
     ∙ ap (λ (z : Reading). put_terms before (in_front z (values_read s (drop (i + 1) ts) z.next (drop (i + 1) xs)))) is
     ∙ sym (ap₂ (λ us ys. put_terms before (values_read s us u ys)) (left_at ts i t e) (left_at xs i x f))
+    ∙ h
+
+-- ---- values of sorts
+-- values in front of others
+abbrev pub put_arguments : List Argument → ArgumentsRead → ArgumentsRead
+put_arguments xs r = record { arguments = xs ++ r.arguments; next = r.next }
+
+one_argument : (xs : List Argument) (y : Argument) (r : ArgumentsRead) → put_arguments (xs ++ y ∷ []) r ≡ put_arguments xs (record { arguments = y ∷ r.arguments; next = r.next })
+one_argument xs y r = λ i. record { arguments = append_one xs r.arguments y i; next = r.next }
+
+-- one value more, of a sort
+pub more_arguments : (s : Setting) (ts : List Sort) (xs : List Pattern) (i u : ℕ) (t : Sort) (x : Pattern) (before : List Argument) (y : Reading) (z : Argument) (w : ArgumentsRead)
+    → slice_get ts i ≡ Some t → slice_get xs i ≡ Some x → y ≡ value_read s t u x → z ≡ argument_of s t y.term
+    → put_arguments before (arguments_read s (drop i ts) u (drop i xs)) ≡ w
+    → put_arguments (before ++ z ∷ []) (arguments_read s (drop (i + 1) ts) y.next (drop (i + 1) xs)) ≡ w
+more_arguments s ts xs i u t x before y z w e f is at h =
+    one_argument before z (arguments_read s (drop (i + 1) ts) y.next (drop (i + 1) xs))
+    ∙ ap (λ a. put_arguments before (argument_in_front a (arguments_read s (drop (i + 1) ts) y.next (drop (i + 1) xs)))) at
+    ∙ ap (λ (r : Reading). put_arguments before (argument_in_front (argument_of s t r.term) (arguments_read s (drop (i + 1) ts) r.next (drop (i + 1) xs)))) is
+    ∙ sym (ap₂ (λ us ys. put_arguments before (arguments_read s us u ys)) (left_at ts i t e) (left_at xs i x f))
     ∙ h
 
 -- ---- factors

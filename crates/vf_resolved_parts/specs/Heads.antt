@@ -4,7 +4,7 @@ use Rattle.std.specs.List.{starts_with}
 use Rattle.vf_base.specs.declared.int_type.IntType.{IntType}
 use Rattle.vf_tree.specs.Core.{Identity}
 use Rattle.vf_names.specs.Names.{number_of}
-use Rattle.vf_closure.specs.Terms.{Term, number}
+use Rattle.vf_closure.specs.Terms.{number}
 use Rattle.vf_sorts.specs.Sorts.{Sort}
 use Rattle.vf_declared.specs.declared.ctype.CType.{CType}
 use Rattle.vf_declared.specs.declared.ctype.CType.TheVariants as types
@@ -26,6 +26,7 @@ use Rattle.vf_terms.specs.Named.{declaration_seen, files_or_none, identity_of, t
 use Rattle.vf_resolved.specs.declared.head.CellField.{CellField}
 use Rattle.vf_resolved.specs.declared.head.Head.{Head}
 use Rattle.vf_resolved.specs.declared.head.Head.TheVariants as heads
+use Rattle.vf_resolved.specs.declared.pattern.Argument.{Argument}
 use Rattle.vf_resolved_parts.specs.declared.heads.Form.{Form}
 use Rattle.vf_resolved_parts.specs.declared.heads.Form.TheVariants as forms
 
@@ -83,19 +84,19 @@ form_of s n =
     if names_predicate s.scope s.known n.text then forms.Value (term_of_name s n.text n.place.file)
     else declared_form s n.text n.place.file (declaration_seen s.scope n.text n.place.file)
 
--- the first of some terms; where there is none, the number 0
-abbrev pub first_term : List Term → Term
-first_term [] = number (pos 0)
-first_term (t ∷ ts) = t
+-- a family at the first of some values; where there is none, a value that is the number 0
+abbrev pub family_at : Identity → List Argument → Head
+family_at i [] = heads.Value (number (pos 0))
+family_at i (x ∷ xs) = heads.Family i x
 
--- what a chunk is of, with the terms between the first of two pairs of parentheses; what is nothing counts as the number 0
-abbrev pub head_for : Form → List Term → Head
-head_for (forms.Value t) ts = heads.Value t
-head_for (forms.Predicate i) ts = heads.Predicate i
-head_for (forms.Family i) ts = heads.Family i (first_term ts)
-head_for (forms.Constructor i) ts = heads.Constructor i ts
-head_for (forms.Block i) ts = heads.Block i
-head_for forms.Other ts = heads.Value (number (pos 0))
+-- what a chunk is of, with the values between the first of two pairs of parentheses; what is nothing counts as the number 0
+abbrev pub head_for : Form → List Argument → Head
+head_for (forms.Value t) xs = heads.Value t
+head_for (forms.Predicate i) xs = heads.Predicate i
+head_for (forms.Family i) xs = family_at i xs
+head_for (forms.Constructor i) xs = heads.Constructor i xs
+head_for (forms.Block i) xs = heads.Block i
+head_for forms.Other xs = heads.Value (number (pos 0))
 
 -- ---- cells
 -- the type of a field of a struct that may be none

@@ -1,7 +1,6 @@
 -- Chunks and cells, resolved.
 use Rattle.std.specs.Prelude.{ℕ, false, List, [], ◌∷◌, Option, Some, None}
 use Rattle.vf_base.specs.declared.place.Place.{Place}
-use Rattle.vf_closure.specs.Terms.{Term}
 use Rattle.vf_sorts.specs.Sorts.{Sort}
 use Rattle.vf_syntax.specs.declared.pattern.Pattern.{Pattern}
 use Rattle.vf_syntax.specs.declared.pattern.Share.{Share}
@@ -11,16 +10,14 @@ use Rattle.vf_binding.specs.Bound.{no_names}
 use Rattle.vf_binding.specs.Chunks.{chunk_takes, told_struct}
 use Rattle.vf_binding.specs.declared.chunk_sorts.ChunkSorts.{ChunkSorts}
 use Rattle.vf_terms.specs.Settings.{Setting}
-use Rattle.vf_terms.specs.Readings.{no_row, read}
+use Rattle.vf_terms.specs.Readings.{read}
 use Rattle.vf_terms.specs.declared.reading.Reading.{Reading}
-use Rattle.vf_terms.specs.declared.reading.Row.{Row}
-use Rattle.vf_resolved.specs.declared.head.Head.{Head}
-use Rattle.vf_resolved.specs.declared.pattern.Pattern as resolved
+use Rattle.vf_resolved.specs.declared.pattern.Argument.{Argument}
 use Rattle.vf_resolved.specs.AssertionTree.{PartTree}
 use Rattle.vf_resolved.specs.AssertionTree as tree
 use Rattle.vf_resolved.specs.TruthTree as truths
 use Rattle.vf_resolved_parts.specs.Heads.{cell_field, content_sort, field_type, form_of, head_for}
-use Rattle.vf_resolved_parts.specs.Patterns.{PatternRead, PatternsRead, application_read, counted, pattern_read, patterns_read, values_read}
+use Rattle.vf_resolved_parts.specs.Patterns.{ArgumentsRead, PatternRead, PatternsRead, application_read, arguments_read, counted, pattern_read, patterns_read}
 use Rattle.vf_resolved_parts.specs.Shares.{ShareRead, share_read}
 use Rattle.vf_resolved_parts.specs.declared.heads.Form.{Form}
 use Rattle.vf_resolved_parts.specs.declared.progress.Progress.{Progress}
@@ -30,9 +27,9 @@ pub record PartRead : Type 0 where
   pub part : PartTree
   pub progress : Progress
 
--- the parentheses of a chunk: the terms of the first of two pairs, and the arguments
-pub record ArgumentsRead : Type 0 where
-  pub first : List Term
+-- the parentheses of a chunk: the values in the first of two pairs, and the arguments
+pub record PairsRead : Type 0 where
+  pub first : List Argument
   pub arguments : PatternsRead
 
 -- nothing is bound
@@ -45,16 +42,16 @@ patterns_or_none None = []
 patterns_or_none (Some xs) = xs
 
 -- two pairs of parentheses, the first of which is read
-abbrev pub second_read : Setting → ℕ → List Sort → Progress → List Pattern → Row → ArgumentsRead
-second_read s m ts g ys row = record { first = row.terms; arguments = patterns_read s m ts (counted g row.next) ys }
+abbrev pub second_read : Setting → ℕ → List Sort → Progress → List Pattern → ArgumentsRead → PairsRead
+second_read s m ts g ys xs = record { first = xs.arguments; arguments = patterns_read s m ts (counted g xs.next) ys }
 
 -- one or two pairs of parentheses, by what a chunk takes
-abbrev pub pairs_read : Setting → ℕ → Progress → Option (List Sort) → List Sort → List Pattern → Option (List Pattern) → ArgumentsRead
+abbrev pub pairs_read : Setting → ℕ → Progress → Option (List Sort) → List Sort → List Pattern → Option (List Pattern) → PairsRead
 pairs_read s m g None ts xs ys = record { first = []; arguments = patterns_read s m ts g xs }
-pairs_read s m g (Some hs) ts xs ys = second_read s m ts g (patterns_or_none ys) (values_read s hs g.next xs)
+pairs_read s m g (Some hs) ts xs ys = second_read s m ts g (patterns_or_none ys) (arguments_read s hs g.next xs)
 
 -- a chunk with its share, what it is of, and its arguments
-abbrev pub chunk_of : Place → ShareRead → Form → ArgumentsRead → PartRead
+abbrev pub chunk_of : Place → ShareRead → Form → PairsRead → PartRead
 chunk_of p h f xs = record { part = tree.chunk p h.share (head_for f xs.first) xs.arguments.patterns; progress = xs.arguments.progress }
 
 -- an application as a truth value

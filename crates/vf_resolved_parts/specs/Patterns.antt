@@ -1,6 +1,6 @@
 -- Patterns, resolved: what is bound in a part gets the numbers behind those of the names in front of the part.
 use Rattle.std.specs.Prelude.{ℕ, ◌+◌, pos, List, [], ◌∷◌, length, map}
-use Rattle.vf_closure.specs.Terms.{number}
+use Rattle.vf_closure.specs.Terms.{Term, number}
 use Rattle.vf_sorts.specs.Sorts.{Sort}
 use Rattle.vf_sorts.specs.Unknowns.{instance}
 use Rattle.vf_syntax.specs.declared.pattern.Pattern.{Pattern}
@@ -17,6 +17,7 @@ use Rattle.vf_terms.specs.Named.{scheme_or_int}
 use Rattle.vf_terms.specs.Readings.{applied_at, in_front, no_row, read, reading}
 use Rattle.vf_terms.specs.declared.reading.Reading.{Reading}
 use Rattle.vf_terms.specs.declared.reading.Row.{Row}
+use Rattle.vf_resolved.specs.declared.pattern.Argument.{Argument}
 use Rattle.vf_resolved.specs.declared.pattern.Pattern as resolved
 use Rattle.vf_resolved.specs.declared.pattern.Pattern.TheVariants as forms
 use Rattle.vf_resolved_parts.specs.Names.{kind_for, slot_for}
@@ -48,13 +49,17 @@ next_number m g = m + length g.bound.sorts
 abbrev pub passed : Setting → Sort → ℕ → GhostExprTree → Reading
 passed s t u e = read s (is_pointer (settled s t)) u e
 
--- an expression as a pattern
-abbrev pub as_pattern : Progress → Reading → PatternRead
-as_pattern g x = record { pattern = forms.Is x.term; progress = counted g x.next }
+-- a value of a sort
+abbrev pub argument_of : Setting → Sort → Term → Argument
+argument_of s t x = record { kind = kind_for (settled s t); term = x }
+
+-- an expression that passes for a sort, as a pattern
+abbrev pub as_pattern : Setting → Sort → Progress → Reading → PatternRead
+as_pattern s t g x = record { pattern = forms.Is (argument_of s t x.term); progress = counted g x.next }
 
 -- a pattern for values of a sort, behind so many names
 abbrev pub pattern_read : Setting → ℕ → Sort → Progress → Pattern → PatternRead
-pattern_read s m t g (patterns.Is e) = as_pattern g (passed s t g.next e)
+pattern_read s m t g (patterns.Is e) = as_pattern s t g (passed s t g.next e)
 pattern_read s m t g (patterns.Binds p n) = record { pattern = forms.Binds (slot_for (next_number m g) (settled s t)); progress = binding g n.text t }
 pattern_read s m t g (patterns.Wild p) = record { pattern = forms.Wild (kind_for (settled s t)); progress = g }
 
@@ -82,6 +87,23 @@ values_read s (t ∷ ts) u [] = no_row u
 values_read s (t ∷ ts) u (x ∷ xs) =
     let y = value_read s t u x in
     in_front y (values_read s ts y.next xs)
+
+-- some values, and the first number of unknown sorts that is not used behind them
+pub record ArgumentsRead : Type 0 where
+  pub arguments : List Argument
+  pub next : ℕ
+
+-- one value in front of others
+abbrev pub argument_in_front : Argument → ArgumentsRead → ArgumentsRead
+argument_in_front x xs = record { arguments = x ∷ xs.arguments; next = xs.next }
+
+-- the same as values of these sorts
+abbrev pub arguments_read : Setting → List Sort → ℕ → List Pattern → ArgumentsRead
+arguments_read s [] u xs = record { arguments = []; next = u }
+arguments_read s (t ∷ ts) u [] = record { arguments = []; next = u }
+arguments_read s (t ∷ ts) u (x ∷ xs) =
+    let y = value_read s t u x in
+    argument_in_front (argument_of s t y.term) (arguments_read s ts y.next xs)
 
 -- a name in front of such patterns as what it may be applied at, where unknown sorts from a number on stand for type parameters
 abbrev pub applied_to : Setting → Name → ℕ → List Pattern → Scheme → Reading

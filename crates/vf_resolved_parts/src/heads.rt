@@ -6,16 +6,17 @@ ghost use Rattle.vf_declared.specs.Scopes.{ghost_of};
 ghost use Rattle.vf_binding.specs.Chunks.{told_struct};
 ghost use Rattle.vf_terms.specs.Named.{declaration_seen};
 ghost use Rattle.vf_terms.specs.Settings.{setting_of};
-ghost use Rattle.vf_resolved_parts.specs.Heads.{block_form, cell_field, content_sort, declared_form, field_type, fields_of, first_term, form_of, ghost_form, head_for, integer_in, later_form, meant_form, place_in, struct_identity, undeclared_form};
+ghost use Rattle.vf_resolved_parts.specs.Heads.{block_form, cell_field, content_sort, declared_form, field_type, family_at, fields_of, form_of, ghost_form, head_for, integer_in, later_form, meant_form, place_in, struct_identity, undeclared_form};
 
 use std::alloc::Global;
-use vf_base::{IntType, Memory, NumberList, Text};
+use vf_base::{IntType, Memory, NumberList, Sequence, Text};
 use vf_declared::ctype::CType;
 use vf_declared::declaration::{Declaration, Fields, GhostDeclaration, Meaning};
 use vf_declared::lookup::at_name;
 use vf_declared::scope::Scope;
-use vf_formula::{Term, TermList};
+use vf_formula::Term;
 use vf_resolved::head::{CellField, Head};
+use vf_resolved::pattern::Argument;
 use vf_sorting::kinds::int_sort;
 use vf_sorting::names::{names_predicate, sort_of_type};
 use vf_sorts::{Head as SortHead, Sort};
@@ -156,28 +157,36 @@ pub fn form_of(setting: &Setting<'_>, name: &Name) -> Result<Form, Memory>
     declared_form(setting, &name.text, name.place.file)
 }
 
-/// The first of some terms; where there is none, the number 0.
-fn first_term(alloc: Global, terms: &TermList) -> Result<Term, Memory>
-    ensures { IfOk result (λ t. t ≡ first_term terms.now) }
+/// A family at the first of some values; where there is none, a value that is the number 0.
+fn family_at(
+    alloc: Global,
+    identity: Text,
+    values: Sequence<Argument>,
+) -> Result<Head, Memory>
+    ensures { IfOk result (λ h. h ≡ family_at identity values) }
 {
-    match terms.get(0) {
-        Some(term) => term.copy(alloc),
-        None => Ok(Term::of_number(alloc, 0)),
-    }
+    let Some(first) = values.get(0) else {
+        return Ok(Head::Value(Term::of_number(alloc, 0)));
+    };
+    let term = first.term.copy(alloc)?;
+    Ok(Head::Family(
+        identity,
+        Argument {
+            kind: first.kind,
+            term,
+        },
+    ))
 }
 
-/// What a chunk is of, with the terms between the first of two pairs of parentheses.
-pub fn head_for(alloc: Global, form: Form, terms: TermList) -> Result<Head, Memory>
-    ensures { IfOk result (λ h. h ≡ head_for form terms) }
+/// What a chunk is of, with the values between the first of two pairs of parentheses.
+pub fn head_for(alloc: Global, form: Form, values: Sequence<Argument>) -> Result<Head, Memory>
+    ensures { IfOk result (λ h. h ≡ head_for form values) }
 {
     match form {
         Form::Value(value) => Ok(Head::Value(value)),
         Form::Predicate(identity) => Ok(Head::Predicate(identity)),
-        Form::Family(identity) => {
-            let index = first_term(alloc, &terms)?;
-            Ok(Head::Family(identity, index))
-        }
-        Form::Constructor(identity) => Ok(Head::Constructor(identity, terms)),
+        Form::Family(identity) => family_at(alloc, identity, values),
+        Form::Constructor(identity) => Ok(Head::Constructor(identity, values)),
         Form::Block(structure) => Ok(Head::Block(structure)),
         Form::Other => Ok(Head::Value(Term::of_number(alloc, 0))),
     }

@@ -7,26 +7,25 @@ ghost use Rattle.vf_resolved_parts.specs.Patterns.{application_read};
 ghost use Rattle.vf_resolved_parts.specs.Parts.{beginning, cell_read, chunk_of, chunk_read, content_read, pairs_read, truth_of};
 
 use crate::heads::{cell_field, content_sort, field_type, form_of, head_for, told_struct};
-use crate::patterns::{application_read, pattern_read, patterns_read, values_read};
+use crate::patterns::{application_read, arguments_read, pattern_read, patterns_read};
 use crate::progress::Progress;
 use crate::shares::share_read;
 use std::alloc::Global;
 use vf_base::{Memory, Place, Sequence};
 use vf_binding::bound::no_names;
 use vf_binding::chunk_sorts::{ChunkSorts, chunk_takes};
-use vf_formula::TermList;
 use vf_resolved::assertion::{Part, PartNode};
-use vf_resolved::pattern::{Pattern as Resolved, Share as ResolvedShare};
+use vf_resolved::pattern::{Argument, Pattern as Resolved, Share as ResolvedShare};
 use vf_resolved::truth::{Truth, TruthNode};
 use vf_syntax::ghost_expr::GhostExpr;
 use vf_syntax::pattern::{Pattern, Share};
 use vf_syntax::written::Name;
 use vf_terms::{Reading, Setting, read};
 
-/// The parentheses of a chunk: the terms of the first of two pairs, and the arguments.
+/// The parentheses of a chunk: the values in the first of two pairs, and the arguments.
 #[derive(Drop)]
 pub struct Pairs {
-    pub first: TermList,
+    pub first: Sequence<Argument>,
     pub arguments: Sequence<Resolved>,
 }
 
@@ -55,12 +54,12 @@ pub fn pairs_read(
         None => {
             let arguments = patterns_read(setting, first, &taken.arguments, progress, one)?;
             Ok(Pairs {
-                first: TermList::new(setting.alloc),
+                first: Sequence::new(setting.alloc),
                 arguments,
             })
         }
         Some(heads) => {
-            let row = values_read(setting, heads, progress.next, one)?;
+            let row = arguments_read(setting, heads, progress.next, one)?;
             progress.next = row.next;
             let none = Sequence::new(setting.alloc);
             let patterns = match two {
@@ -69,7 +68,7 @@ pub fn pairs_read(
             };
             let arguments = patterns_read(setting, first, &taken.arguments, progress, patterns)?;
             Ok(Pairs {
-                first: row.terms,
+                first: row.arguments,
                 arguments,
             })
         }

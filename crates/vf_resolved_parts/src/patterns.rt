@@ -4,14 +4,14 @@ ghost use Rattle.std.specs.Prelude.{◌≡◌, ◌+◌, IfOk};
 ghost use Rattle.vf_terms.specs.Settings.{setting_of};
 ghost use Rattle.vf_terms.specs.Named.{scheme_or_int};
 ghost use Rattle.vf_sorting.specs.Schemes as schemes;
-ghost use Rattle.vf_resolved_parts.specs.Patterns.{application_read, next_number, passed, pattern_read, patterns_read, value_read, values_read};
+ghost use Rattle.vf_resolved_parts.specs.Patterns.{application_read, argument_of, arguments_read, next_number, passed, pattern_read, patterns_read, value_read, values_read};
 
 use crate::names::{kind_for, slot_for};
 use crate::progress::Progress;
 use vf_asserting::cases::instances;
 use vf_base::{Memory, Sequence};
 use vf_formula::{Term, TermList};
-use vf_resolved::pattern::Pattern as Resolved;
+use vf_resolved::pattern::{Argument, Pattern as Resolved};
 use vf_sorting::kinds::{int_sort, is_pointer};
 use vf_sorts::{Sort, SortList};
 use vf_syntax::ghost_expr::GhostExpr;
@@ -42,6 +42,17 @@ pub fn passed(
     read(setting, is_pointer(&wanted), next, expr)
 }
 
+/// A value of a sort.
+fn argument_of(setting: &Setting<'_>, sort: &Sort, term: Term) -> Result<Argument, Memory>
+    ensures { IfOk result (λ x. x ≡ argument_of (setting_of setting.now) sort.now term) }
+{
+    let settled = settled(setting, sort)?;
+    Ok(Argument {
+        kind: kind_for(&settled),
+        term,
+    })
+}
+
 /// A pattern for values of a sort, behind so many names.
 pub fn pattern_read(
     setting: &Setting<'_>,
@@ -56,7 +67,8 @@ pub fn pattern_read(
         Pattern::Is(expr) => {
             let reading = passed(setting, sort, progress.next, expr)?;
             progress.next = reading.next;
-            Ok(Resolved::Is(reading.term))
+            let argument = argument_of(setting, sort, reading.term)?;
+            Ok(Resolved::Is(argument))
         }
         Pattern::Binds(_, name) => {
             let number = next_number(first, progress)?;
@@ -140,6 +152,41 @@ pub fn values_read(
         row.next = value.next;
     }
     Ok(row)
+}
+
+/// Some values, and the first number of unknown sorts that is not used behind them.
+#[derive(Drop)]
+pub struct Arguments {
+    pub arguments: Sequence<Argument>,
+    pub next: usize,
+}
+
+/// Such patterns as values of these sorts, one for each, from left to right.
+pub fn arguments_read(
+    setting: &Setting<'_>,
+    sorts: &SortList,
+    next: usize,
+    patterns: &Sequence<Pattern>,
+) -> Result<Arguments, Memory>
+    ensures { IfOk result (λ xs. arguments_read (setting_of setting.now) sorts.now next patterns.now ≡ record { arguments = xs.arguments; next = xs.next }) }
+{
+    let mut all = Arguments {
+        arguments: Sequence::new(setting.alloc),
+        next,
+    };
+    for at in 0..patterns.len().min(sorts.len()) {
+        let Some(sort) = sorts.get(at) else {
+            return Ok(all);
+        };
+        let Some(pattern) = patterns.get(at) else {
+            return Ok(all);
+        };
+        let value = value_read(setting, sort, all.next, pattern)?;
+        let argument = argument_of(setting, sort, value.term)?;
+        all.arguments.push(argument)?;
+        all.next = value.next;
+    }
+    Ok(all)
 }
 
 /// An application that is a truth value.
