@@ -1,5 +1,5 @@
 -- Commands, branches and arguments, one by one.
-use Rattle.std.proofs.Common.{◌≡◌, ℕ, ◌+◌, List, [], ◌∷◌, ◌++◌, drop, Some, slice_get, refl, sym, ap, ap₂, ◌∙◌}
+use Rattle.std.proofs.Common.{◌≡◌, ℕ, zero, suc, ◌+◌, ◌≤◌, List, [], ◌∷◌, ◌++◌, length, min, drop, Some, slice_get, refl, sym, ap, ap₂, ◌∙◌, arith}
 use Rattle.vf_closure.specs.Terms.{Term}
 use Rattle.vf_sorts.specs.Sorts.{Sort}
 use Rattle.vf_syntax.specs.GhostCommandTree as written
@@ -19,6 +19,10 @@ use Rattle.vf_resolved_commands.specs.Commands.{BranchResolved, BranchesResolved
 append_one : {A : Type 0} (xs ys : List A) (x : A) → (xs ++ x ∷ []) ++ ys ≡ xs ++ x ∷ ys
 append_one [] ys x = refl
 append_one (y ∷ xs) ys x = ap (λ zs. y ∷ zs) (append_one xs ys x)
+
+append_none : {A : Type 0} (xs : List A) → xs ++ [] ≡ xs
+append_none [] = refl
+append_none (x ∷ xs) = ap (λ ys. x ∷ ys) (append_none xs)
 
 -- ---- commands
 -- commands in front of others
@@ -76,3 +80,21 @@ more_passed s ts xs i u t x before y w e f is h =
     ∙ ap (λ (z : Reading). put_terms before (in_front z (all_passed s (drop (i + 1) ts) z.next (drop (i + 1) xs)))) is
     ∙ sym (ap₂ (λ us ys. put_terms before (all_passed s us u ys)) (left_at ts i t e) (left_at xs i x f))
     ∙ h
+
+none_passed : (s : Setting) (u : ℕ) (ts : List Sort) → all_passed s ts u [] ≡ record { terms = []; next = u }
+none_passed s u [] = refl
+none_passed s u (t ∷ ts) = refl
+
+passed_end : (s : Setting) (u : ℕ) (ts : List Sort) (xs : List GhostExprTree) (i : ℕ) → min (length xs) (length ts) ≤ i → all_passed s (drop i ts) u (drop i xs) ≡ record { terms = []; next = u }
+passed_end s u [] xs zero h = refl
+passed_end s u (t ∷ ts) [] zero h = refl
+passed_end s u (t ∷ ts) (x ∷ xs) zero h = absurd (omega (arith, h))
+passed_end s u [] xs (suc i) h = refl
+passed_end s u (t ∷ ts) [] (suc i) h = none_passed s u (drop i ts)
+passed_end s u (t ∷ ts) (x ∷ xs) (suc i) h = passed_end s u ts xs i (omega (arith, h))
+
+-- no argument more
+pub passed_all : (s : Setting) (ts : List Sort) (xs : List GhostExprTree) (i : ℕ) (r w : Row) → min (length xs) (length ts) ≤ i
+    → put_terms r.terms (all_passed s (drop i ts) r.next (drop i xs)) ≡ w → r ≡ w
+passed_all s ts xs i r w l h =
+    sym (ap (put_terms r.terms) (passed_end s r.next ts xs i l) ∙ (λ j. record { terms = append_none r.terms j; next = r.next })) ∙ h

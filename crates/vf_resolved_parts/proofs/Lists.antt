@@ -1,5 +1,5 @@
 -- Patterns, values and factors, one by one.
-use Rattle.std.proofs.Common.{◌≡◌, ℕ, ◌+◌, Bool, List, [], ◌∷◌, ◌++◌, drop, Some, slice_get, refl, sym, ap, ap₂, ◌∙◌}
+use Rattle.std.proofs.Common.{◌≡◌, ℕ, zero, suc, ◌+◌, ◌≤◌, Bool, List, [], ◌∷◌, ◌++◌, length, min, drop, Some, slice_get, refl, sym, ap, ap₂, ◌∙◌, arith}
 use Rattle.vf_closure.specs.Terms.{Term}
 use Rattle.vf_sorts.specs.Sorts.{Sort}
 use Rattle.vf_syntax.specs.declared.pattern.FactorLink.{FactorLink}
@@ -20,6 +20,10 @@ append_one : {A : Type 0} (xs ys : List A) (x : A) → (xs ++ x ∷ []) ++ ys �
 append_one [] ys x = refl
 append_one (y ∷ xs) ys x = ap (λ zs. y ∷ zs) (append_one xs ys x)
 
+append_none : {A : Type 0} (xs : List A) → xs ++ [] ≡ xs
+append_none [] = refl
+append_none (x ∷ xs) = ap (λ ys. x ∷ ys) (append_none xs)
+
 -- ---- patterns
 -- patterns in front of others
 abbrev pub put_patterns : List resolved.Pattern → PatternsRead → PatternsRead
@@ -38,6 +42,24 @@ more_patterns s m ts xs i g g' t x before y w e f is h =
     ∙ sym (ap (λ (z : PatternRead). put_patterns before (pattern_in_front z (patterns_read s m (drop (i + 1) ts) z.progress (drop (i + 1) xs)))) is)
     ∙ sym (ap₂ (λ us ys. put_patterns before (patterns_read s m us g ys)) (left_at ts i t e) (left_at xs i x f))
     ∙ h
+
+no_patterns : (s : Setting) (m : ℕ) (g : Progress) (ts : List Sort) → patterns_read s m ts g [] ≡ record { patterns = []; progress = g }
+no_patterns s m g [] = refl
+no_patterns s m g (t ∷ ts) = refl
+
+patterns_end : (s : Setting) (m : ℕ) (g : Progress) (ts : List Sort) (xs : List Pattern) (i : ℕ) → min (length xs) (length ts) ≤ i → patterns_read s m (drop i ts) g (drop i xs) ≡ record { patterns = []; progress = g }
+patterns_end s m g [] xs zero h = refl
+patterns_end s m g (t ∷ ts) [] zero h = refl
+patterns_end s m g (t ∷ ts) (x ∷ xs) zero h = absurd (omega (arith, h))
+patterns_end s m g [] xs (suc i) h = refl
+patterns_end s m g (t ∷ ts) [] (suc i) h = no_patterns s m g (drop i ts)
+patterns_end s m g (t ∷ ts) (x ∷ xs) (suc i) h = patterns_end s m g ts xs i (omega (arith, h))
+
+-- no pattern more
+pub all_patterns : (s : Setting) (m : ℕ) (ts : List Sort) (xs : List Pattern) (i : ℕ) (g : Progress) (before : List resolved.Pattern) (w : PatternsRead) → min (length xs) (length ts) ≤ i
+    → put_patterns before (patterns_read s m (drop i ts) g (drop i xs)) ≡ w → w ≡ record { patterns = before; progress = g }
+all_patterns s m ts xs i g before w l h =
+    sym h ∙ ap (put_patterns before) (patterns_end s m g ts xs i l) ∙ (λ j. record { patterns = append_none before j; progress = g })
 
 -- ---- values
 -- terms in front of a row
@@ -58,6 +80,24 @@ more_values s ts xs i u t x before y w e f is h =
     ∙ sym (ap₂ (λ us ys. put_terms before (values_read s us u ys)) (left_at ts i t e) (left_at xs i x f))
     ∙ h
 
+no_values : (s : Setting) (u : ℕ) (ts : List Sort) → values_read s ts u [] ≡ record { terms = []; next = u }
+no_values s u [] = refl
+no_values s u (t ∷ ts) = refl
+
+values_end : (s : Setting) (u : ℕ) (ts : List Sort) (xs : List Pattern) (i : ℕ) → min (length xs) (length ts) ≤ i → values_read s (drop i ts) u (drop i xs) ≡ record { terms = []; next = u }
+values_end s u [] xs zero h = refl
+values_end s u (t ∷ ts) [] zero h = refl
+values_end s u (t ∷ ts) (x ∷ xs) zero h = absurd (omega (arith, h))
+values_end s u [] xs (suc i) h = refl
+values_end s u (t ∷ ts) [] (suc i) h = no_values s u (drop i ts)
+values_end s u (t ∷ ts) (x ∷ xs) (suc i) h = values_end s u ts xs i (omega (arith, h))
+
+-- no value more
+pub all_values : (s : Setting) (ts : List Sort) (xs : List Pattern) (i : ℕ) (r w : Row) → min (length xs) (length ts) ≤ i
+    → put_terms r.terms (values_read s (drop i ts) r.next (drop i xs)) ≡ w → r ≡ w
+all_values s ts xs i r w l h =
+    sym (ap (put_terms r.terms) (values_end s r.next ts xs i l) ∙ (λ j. record { terms = append_none r.terms j; next = r.next })) ∙ h
+
 -- ---- values of sorts
 -- values in front of others
 abbrev pub put_arguments : List Argument → ArgumentsRead → ArgumentsRead
@@ -77,6 +117,24 @@ more_arguments s ts xs i u t x before y z w e f is at h =
     ∙ ap (λ (r : Reading). put_arguments before (argument_in_front (argument_of s t r.term) (arguments_read s (drop (i + 1) ts) r.next (drop (i + 1) xs)))) is
     ∙ sym (ap₂ (λ us ys. put_arguments before (arguments_read s us u ys)) (left_at ts i t e) (left_at xs i x f))
     ∙ h
+
+no_arguments : (s : Setting) (u : ℕ) (ts : List Sort) → arguments_read s ts u [] ≡ record { arguments = []; next = u }
+no_arguments s u [] = refl
+no_arguments s u (t ∷ ts) = refl
+
+arguments_end : (s : Setting) (u : ℕ) (ts : List Sort) (xs : List Pattern) (i : ℕ) → min (length xs) (length ts) ≤ i → arguments_read s (drop i ts) u (drop i xs) ≡ record { arguments = []; next = u }
+arguments_end s u [] xs zero h = refl
+arguments_end s u (t ∷ ts) [] zero h = refl
+arguments_end s u (t ∷ ts) (x ∷ xs) zero h = absurd (omega (arith, h))
+arguments_end s u [] xs (suc i) h = refl
+arguments_end s u (t ∷ ts) [] (suc i) h = no_arguments s u (drop i ts)
+arguments_end s u (t ∷ ts) (x ∷ xs) (suc i) h = arguments_end s u ts xs i (omega (arith, h))
+
+-- no value more
+pub all_arguments : (s : Setting) (ts : List Sort) (xs : List Pattern) (i u : ℕ) (before : List Argument) (w : ArgumentsRead) → min (length xs) (length ts) ≤ i
+    → put_arguments before (arguments_read s (drop i ts) u (drop i xs)) ≡ w → w ≡ record { arguments = before; next = u }
+all_arguments s ts xs i u before w l h =
+    sym h ∙ ap (put_arguments before) (arguments_end s u ts xs i l) ∙ (λ j. record { arguments = append_none before j; next = u })
 
 -- ---- factors
 -- factors in front of others

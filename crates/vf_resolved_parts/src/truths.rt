@@ -17,6 +17,7 @@ use vf_syntax::operator::{Level, UnaryOperator};
 use vf_terms::{Reading, Setting, is_null, read};
 
 /// A number beside the first of some operators `<`, `<=`, `>` and `>=`.
+#[tactic(auto, using(crate::proofs::Links::relation_none, crate::proofs::Links::relation_one))]
 fn relation(
     setting: &Setting<'_>,
     start: Reading,

@@ -11,5 +11,5 @@ loop-at-preserved c =
     let ls = a.links.now in
     let i = c.loop-at.at in
     let there : slice_get ls i ≡ Some c.in-Some.link.now = sym c.in-Some.ensures in
-    ap (λ ys. put_factors ys (links_read s c.factor_read.new.next (drop (i + 1) ls))) c.in_ok-push.ensures.pushed
-    ∙ more_factors s ls i c.loop-at.next c.factor_read.new.next c.in-Some.link.now c.loop-at.all c.in_ok-factor.factor _ there c.in_ok-factor.ensures c.loop-at.invariant
+    ap (λ ys. put_factors ys (links_read s c.factor_read-in-loop-at.new.next (drop (i + 1) ls))) c.in_ok-push-2.ensures.pushed
+    ∙ more_factors s ls i c.loop-at.next c.factor_read-in-loop-at.new.next c.in-Some.link.now c.loop-at.all c.in_ok-factor.factor _ there c.in_ok-factor.ensures c.loop-at.invariant
