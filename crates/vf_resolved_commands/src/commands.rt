@@ -14,7 +14,7 @@ use vf_base::{Memory, Place};
 use vf_names::Names;
 use vf_resolved::command::{Command, CommandBranch, CommandBranchList, CommandList, CommandNode as Node};
 use vf_resolved_parts::{Progress, truth};
-use vf_resolving::cases::{Switched, case_names, constructor_identity, constructor_place, switched};
+use vf_resolving::cases::{Switched, case_names, constructor_identity, constructor_place, switch_over};
 use vf_resolving::standing::{leave, put_behind, setting, slots_for};
 use vf_resolving::{Around, Standing, assertion_resolved};
 use vf_syntax::assertion::Assertion;
@@ -202,7 +202,7 @@ fn switch_resolved(
 {
     let setting = setting(around, standing);
     let reading = read(&setting, false, standing.next, value)?;
-    let over = switched(&standing.scope, &reading);
+    let over = switch_over(&standing.scope, &reading);
     standing.next = behind(over.first, over.count)?;
     let branches = branches_resolved(around, parameters, over, standing, cases)?;
     Ok(Command {

@@ -1,5 +1,7 @@
 -- Parts, branches, names and slots, one by one.
 use Rattle.std.proofs.Common.{◌≡◌, ℕ, zero, suc, ◌+◌, List, [], ◌∷◌, ◌++◌, drop, Some, slice_get, refl, sym, ap, ◌∙◌, arith}
+use Rattle.std.specs.Prelude.{Bool, if◌then◌else◌}
+use Rattle.std.proofs.lemmas.Bool.{eq-eqb, ne_eqb}
 use Rattle.vf_sorts.specs.Sorts.{Sort}
 use Rattle.vf_syntax.specs.AssertionTree as written
 use Rattle.vf_syntax.specs.AssertionTree.{assertion_case_list, part_list}
@@ -9,6 +11,7 @@ use Rattle.vf_resolved.specs.declared.pattern.Slot.{Slot}
 use Rattle.vf_resolved_parts.specs.Names.{slot_for}
 use Rattle.vf_resolving.specs.Standings.{Around, Standing, known_sort, slots_for, with_name, with_sorts}
 use Rattle.vf_resolving.specs.Assertions.{BranchResolved, BranchesResolved, PartResolved, PartsResolved, branch_in_front, case_resolved, cases_resolved, part_in_front, part_resolved, parts_resolved}
+use Rattle.vf_resolving.specs.Cases.{place_among}
 use Rattle.vf_resolving.specs.declared.cases.Switched.{Switched}
 
 append_one : {A : Type 0} (xs ys : List A) (x : A) → (xs ++ x ∷ []) ++ ys ≡ xs ++ x ∷ ys
@@ -74,3 +77,16 @@ more_slots a n ts i t t' before k w e is at h =
     ∙ append_one before (slots_for a (suc (n + i)) (drop (i + 1) ts)) (slot_for (n + i) (known_sort a t))
     ∙ sym (ap (λ us. before ++ slots_for a (n + i) us) (left_at ts i t e))
     ∙ h
+
+-- ---- places among numbers
+-- the number stands here
+pub place_here : (ms : List ℕ) (i m n : ℕ) → slice_get ms i ≡ Some m → m ≡ n → place_among ms n ≡ i + place_among (drop i ms) n → i ≡ place_among ms n
+place_here ms i m n e q h =
+    let none : i + 0 ≡ i = omega arith in
+    sym (h ∙ ap (λ xs. i + place_among xs n) (left_at ms i m e) ∙ ap (λ (b : Bool). i + (if b then 0 else suc (place_among (drop (i + 1) ms) n))) (eq-eqb m n q) ∙ none)
+
+-- the number stands behind or nowhere
+pub place_on : (ms : List ℕ) (i m n : ℕ) → slice_get ms i ≡ Some m → (m ≡ n → ⊥) → place_among ms n ≡ i + place_among (drop i ms) n → place_among ms n ≡ (i + 1) + place_among (drop (i + 1) ms) n
+place_on ms i m n e q h =
+    let step : i + suc (place_among (drop (i + 1) ms) n) ≡ (i + 1) + place_among (drop (i + 1) ms) n = omega arith in
+    h ∙ ap (λ xs. i + place_among xs n) (left_at ms i m e) ∙ ap (λ (b : Bool). i + (if b then 0 else suc (place_among (drop (i + 1) ms) n))) (ne_eqb m n q) ∙ step

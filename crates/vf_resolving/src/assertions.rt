@@ -7,18 +7,18 @@ ghost use Rattle.vf_resolving.specs.Standings.{around_of, standing_of};
 ghost use Rattle.vf_resolving.specs.Assertions.{case_resolved, cases_resolved, enclosed, part_resolved, parts_resolved};
 ghost use Rattle.vf_asserting.specs.Leaving.{count};
 
-use crate::cases::{Switched, case_names, constructor_identity, constructor_place, switched};
-use crate::standing::{Around, Standing, leave, put_behind, setting, slots_for};
+use crate::cases::{Switched, case_names, constructor_identity, constructor_place, switch_over};
+use crate::reading::{cell_at, chunk_at, read_at, truth_at};
+use crate::standing::{Around, Standing, leave, put_behind, slots_for};
 use vf_base::{Memory, Place, Sequence};
 use vf_resolved::assertion::{Assertion as Resolved, Branch, BranchList, Part as ResolvedPart, PartNode as Node};
-use vf_resolved_parts::parts::{beginning, cell_read, chunk_read};
-use vf_resolved_parts::{Progress, truth};
+use vf_resolved_parts::Progress;
+use vf_resolved_parts::parts::beginning;
 use vf_syntax::assertion::{Assertion, AssertionCase, AssertionCaseList, Part, PartNode};
 use vf_syntax::ghost_expr::GhostExpr;
 use vf_syntax::pattern::{CasePattern, Pattern, Share};
 use vf_syntax::written::Name;
 use vf_terms::arguments::behind;
-use vf_terms::read;
 
 /// A chunk at a place.
 fn chunk_resolved(
@@ -33,11 +33,9 @@ fn chunk_resolved(
     ensures { IfOk result (λ x. part_resolved (around_of around.now) (standing_of standing.old) (written.chunk place share.now name.now first.now second.now) ≡ record { part = x; standing = standing_of standing.new }) }
 {
     let mut progress = beginning(around.alloc, standing.next);
-    let many = standing.sorts.len();
-    let setting = setting(around, standing);
-    let part = chunk_read(
-        &setting,
-        many,
+    let part = chunk_at(
+        around,
+        standing,
         &mut progress,
         place,
         share,
@@ -62,11 +60,9 @@ fn cell_resolved(
     ensures { IfOk result (λ x. part_resolved (around_of around.now) (standing_of standing.old) (written.cell place share.now pointer.now field.now content.now) ≡ record { part = x; standing = standing_of standing.new }) }
 {
     let mut progress = beginning(around.alloc, standing.next);
-    let many = standing.sorts.len();
-    let setting = setting(around, standing);
-    let part = cell_read(
-        &setting,
-        many,
+    let part = cell_at(
+        around,
+        standing,
         &mut progress,
         place,
         share,
@@ -87,8 +83,7 @@ fn pure_resolved(
 ) -> Result<ResolvedPart, Memory>
     ensures { IfOk result (λ x. part_resolved (around_of around.now) (standing_of standing.old) (written.pure place expr.now) ≡ record { part = x; standing = standing_of standing.new }) }
 {
-    let setting = setting(around, standing);
-    let reading = truth(&setting, standing.next, expr)?;
+    let reading = truth_at(around, standing, expr)?;
     standing.next = reading.next;
     Ok(ResolvedPart {
         place,
@@ -170,8 +165,7 @@ fn conditional_resolved(
 ) -> Result<ResolvedPart, Memory>
     ensures { IfOk result (λ x. part_resolved (around_of around.now) (standing_of standing.old) (written.conditional place test.now (part_list yes.now) (part_list no.now)) ≡ record { part = x; standing = standing_of standing.new }) }
 {
-    let setting = setting(around, standing);
-    let test = truth(&setting, standing.next, test)?;
+    let test = truth_at(around, standing, test)?;
     standing.next = test.next;
     let yes = branch_resolved(around, standing, yes)?;
     let no = branch_resolved(around, standing, no)?;
@@ -192,9 +186,8 @@ fn switch_resolved(
 ) -> Result<ResolvedPart, Memory>
     ensures { IfOk result (λ x. part_resolved (around_of around.now) (standing_of standing.old) (written.switch_ place value.now (assertion_case_list cases.now)) ≡ record { part = x; standing = standing_of standing.new }) }
 {
-    let setting = setting(around, standing);
-    let reading = read(&setting, false, standing.next, value)?;
-    let over = switched(&standing.scope, &reading);
+    let reading = read_at(around, standing, value)?;
+    let over = switch_over(&standing.scope, &reading);
     standing.next = behind(over.first, over.count)?;
     let branches = cases_resolved(around, over, standing, cases)?;
     Ok(ResolvedPart {

@@ -31,7 +31,7 @@ pub struct Switched {
 }
 
 /// What is switched over where a value is.
-pub fn switched(scope: &Scope, reading: &Reading) -> Switched
+pub fn switch_over(scope: &Scope, reading: &Reading) -> Switched
     ensures { result ≡ switched scope.now reading.now }
 {
     let datatype = datatype_in(&reading.sort);
@@ -62,6 +62,7 @@ pub fn constructor_identity(
 }
 
 /// The place of a number among others; behind them, where it is none of them.
+#[tactic(auto, using(crate::proofs::Lists::place_here, crate::proofs::Lists::place_on))]
 fn place_among(numbers: &NumberList, number: usize) -> usize
     ensures { result ≡ place_among numbers.now number }
 {

@@ -11,6 +11,7 @@
 
 mod assertions;
 pub mod cases;
+pub mod reading;
 pub mod standing;
 
 pub use assertions::{assertion_resolved, part_resolved};

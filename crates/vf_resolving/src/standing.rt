@@ -1,8 +1,7 @@
 //! What stands around annotations, and what is declared and numbered at a place of one.
 
 ghost use Rattle.std.specs.Prelude.{◌≡◌, IfOk, OnOk};
-ghost use Rattle.vf_terms.specs.Settings.{setting_of};
-ghost use Rattle.vf_resolving.specs.Standings.{around_of, behind, declaring, known_sort, leaving, setting_at, slots_for, standing_of, with_name, with_sorts};
+ghost use Rattle.vf_resolving.specs.Standings.{around_of, behind, declaring, known_sort, leaving, slots_for, standing_of, with_name, with_sorts};
 
 use std::alloc::Global;
 use vf_base::{Memory, Sequence, Text};
@@ -14,7 +13,6 @@ use vf_resolved_parts::Progress;
 use vf_resolved_parts::names::{slot_for, symbol_for};
 use vf_sorting::Context;
 use vf_sorts::{Sort, SortList, Unknowns};
-use vf_terms::Setting;
 use vf_terms::arguments::behind as number_behind;
 
 /// What stands around annotations.
@@ -42,23 +40,6 @@ pub struct Standing {
     pub sorts: SortList,
     /// The first number of unknown sorts that is not used yet.
     pub next: usize,
-}
-
-/// What stands around expressions at a place.
-pub fn setting<'a>(around: &Around<'a>, standing: &'a Standing) -> Setting<'a>
-    ensures { setting_of result ≡ setting_at (around_of around.now) (standing_of standing.now) }
-{
-    Setting {
-        alloc: around.alloc,
-        scope: &standing.scope,
-        context: around.context,
-        unknowns: around.unknowns,
-        paths: around.paths,
-        locals: &standing.terms,
-        result: around.result,
-        this_value: around.this_value,
-        thread: around.thread,
-    }
 }
 
 /// A sort as it is known in the end.
