@@ -4,7 +4,7 @@ ghost use Rattle.std.specs.Prelude.{◌≡◌, IfOk};
 ghost use Rattle.vf_resolved_contracts.specs.Reading.{body_read, body_read_of};
 ghost use Rattle.vf_resolved_contracts.specs.Resolves.{IsBodyKnown, IsBodyResolved};
 
-use crate::starting::starting;
+use crate::starts::starting;
 use crate::words::{result_symbol, this_symbol, thread_symbol};
 use std::alloc::Global;
 use vf_asserting::assertion_given;

@@ -10,10 +10,10 @@
 
 mod bodies;
 mod contracts;
-mod starting;
+mod starts;
 mod words;
 
 pub use bodies::{BodyRead, body_resolved};
 pub use contracts::{ContractRead, contract_resolved};
-pub use starting::starting;
+pub use starts::starting;
 pub use words::{result_symbol, this_symbol, thread_symbol};

@@ -70,11 +70,7 @@ fn ghost_form(scope: &Scope, identity: Text, number: usize) -> Form
 }
 
 /// What a name that is declared is there.
-fn meant_form(
-    setting: &Setting<'_>,
-    name: &Text,
-    declaration: &Declaration,
-) -> Result<Form, Memory>
+fn meant_form(setting: &Setting<'_>, name: &Text, declaration: &Declaration) -> Result<Form, Memory>
     ensures { IfOk result (λ f. f ≡ meant_form (setting_of setting.now) name.now declaration.now.files declaration.now.meaning) }
 {
     match declaration.meaning {
@@ -158,11 +154,7 @@ pub fn form_of(setting: &Setting<'_>, name: &Name) -> Result<Form, Memory>
 }
 
 /// A family at the first of some values; where there is none, a value that is the number 0.
-fn family_at(
-    alloc: Global,
-    identity: Text,
-    values: Sequence<Argument>,
-) -> Result<Head, Memory>
+fn family_at(alloc: Global, identity: Text, values: Sequence<Argument>) -> Result<Head, Memory>
     ensures { IfOk result (λ h. h ≡ family_at identity values) }
 {
     let Some(first) = values.get(0) else {

@@ -11,7 +11,9 @@ use crate::cases::{Switched, case_names, constructor_identity, constructor_place
 use crate::reading::{cell_at, chunk_at, read_at, truth_at};
 use crate::standing::{Around, Standing, leave, put_behind, slots_for};
 use vf_base::{Memory, Place, Sequence};
-use vf_resolved::assertion::{Assertion as Resolved, Branch, BranchList, Part as ResolvedPart, PartNode as Node};
+use vf_resolved::assertion::{
+    Assertion as Resolved, Branch, BranchList, Part as ResolvedPart, PartNode as Node,
+};
 use vf_resolved_parts::Progress;
 use vf_resolved_parts::parts::beginning;
 use vf_syntax::assertion::{Assertion, AssertionCase, AssertionCaseList, Part, PartNode};

@@ -1,7 +1,7 @@
 use Rattle.std.proofs.Common.{◌≡◌, ◌+◌, ◌++◌, ◌∷◌, [], drop, map, Some, slice_get, sym, ap, ◌∙◌}
 use Rattle.vf_sorting.specs.Schemes.{sort_of_local}
 use Rattle.vf_resolved_contracts.proofs.Steps.{one_more}
-use Rattle.vf_resolved_contracts.proofs.starting.sorts_of.Goals as goal
+use Rattle.vf_resolved_contracts.proofs.starts.sorts_of.Goals as goal
 
 pub loop-at-preserved : goal.loop-at-preserved
 loop-at-preserved c =

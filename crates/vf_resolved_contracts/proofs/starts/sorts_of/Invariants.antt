@@ -1,6 +1,6 @@
 use Rattle.std.proofs.Common.{◌≡◌, ◌++◌, drop, map}
 use Rattle.vf_sorting.specs.Schemes.{sort_of_local}
-use Rattle.vf_resolved_contracts.proofs.starting.sorts_of.Given as goal
+use Rattle.vf_resolved_contracts.proofs.starts.sorts_of.Given as goal
 
 -- the sorts that were told, with those that are left, are all
 abbrev pub invariant-loop-at : goal.invariant-loop-at
