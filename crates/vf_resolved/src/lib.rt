@@ -7,8 +7,8 @@
 //! comparisons and choices of a truth value that is a part of an assertion stay apart, and each part, case and command
 //! keeps its place.
 //!
-//! `specs/AssertionTree.antt` and its neighbours have the pure data, `specs/Meaning.antt` the assertion that a
-//! resolved one means, and `specs/Apart.antt` the term that a truth value is.
+//! `specs/AssertionTree.antt` and its neighbours have the pure data, and `specs/Apart.antt` the term that a truth value
+//! is whose connectives and comparisons are told apart.
 #![tactic(auto)]
 
 pub mod assertion;
