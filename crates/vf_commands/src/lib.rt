@@ -11,7 +11,8 @@
 //! sorts to the scope and what is known then. `command_given`: what is declared behind a ghost command is what the
 //! rules of `CommandGives` give, and a refusal is one that the rules of `CommandFails` give, by its rule and place,
 //! in the form that `vf_walk::Annotations` asks for. `body_given` the same of the commands of a lemma's body, one
-//! after another. The rules give one answer at most (`vf_order_laws::determined`).
+//! after another. The rules give one answer at most (`vf_order_laws::determined`). [`given`] goes over one command and
+//! keeps what it declares of unknown sorts, for who reads the command once more.
 #![tactic(auto)]
 
 pub mod around;
@@ -25,3 +26,4 @@ mod switches;
 
 pub use around::{Around, around_statements};
 pub use bodies::{body_given, command_given};
+pub use commands::given;

@@ -45,7 +45,7 @@ pub(crate) fn scheme_of_name(
 }
 
 /// What a name may be applied at; where it may not be applied, whole numbers.
-pub(crate) fn scheme_of_application(
+pub fn scheme_of_application(
     setting: &Setting<'_>,
     place: Place,
     name: &Text,
@@ -67,7 +67,7 @@ pub(crate) fn scheme_of_application(
 
 /// The number behind those of so many unknown sorts from one on. There is no memory for more than numbers
 /// have bits for.
-pub(crate) fn behind(first: usize, count: usize) -> Result<usize, Memory>
+pub fn behind(first: usize, count: usize) -> Result<usize, Memory>
     ensures { IfOk result (λ n. n ≡ first + count) }
 {
     match first.checked_add(count) {
@@ -77,7 +77,7 @@ pub(crate) fn behind(first: usize, count: usize) -> Result<usize, Memory>
 }
 
 /// The sort of a parameter or a result at unknown sorts from a number on, as it is known in the end.
-pub(crate) fn settled_instance(
+pub fn settled_instance(
     setting: &Setting<'_>,
     first: usize,
     count: usize,
@@ -91,7 +91,7 @@ pub(crate) fn settled_instance(
 }
 
 /// A name at a place as a value.
-pub(crate) fn named(
+pub fn named(
     setting: &Setting<'_>,
     next: usize,
     place: Place,
@@ -111,7 +111,7 @@ pub(crate) fn named(
 }
 
 /// A name in front of arguments that were read, at what it may be applied at.
-pub(crate) fn applied(
+pub fn applied(
     setting: &Setting<'_>,
     scheme: &Scheme,
     name: &Text,

@@ -11,7 +11,7 @@ use vf_syntax::operator::{BinaryOperator, UnaryOperator};
 
 /// Whether an expression is a `0`, in parentheses or not.
 #[cycle(is_null)]
-pub(crate) fn is_null(expr: &GhostExpr) -> bool
+pub fn is_null(expr: &GhostExpr) -> bool
     ensures { result ≡ is_null expr.now }
 {
     match &expr.node {

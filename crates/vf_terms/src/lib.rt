@@ -8,14 +8,15 @@
 //! memory alone is free.
 #![tactic(auto)]
 
-mod arguments;
+pub mod arguments;
 mod expression;
 mod forms;
 pub mod named;
 mod operated;
 mod reading;
-mod setting;
+pub mod setting;
 
 pub use expression::read;
-pub use reading::Reading;
+pub use forms::is_null;
+pub use reading::{Reading, Row};
 pub use setting::Setting;

@@ -139,7 +139,7 @@ fn term_of_head(alloc: Global, head: Option<Head>) -> Term
 }
 
 /// The term of a name in a file.
-pub(crate) fn term_of_name(setting: &Setting<'_>, name: &Text, from: u32) -> Result<Term, Memory>
+pub fn term_of_name(setting: &Setting<'_>, name: &Text, from: u32) -> Result<Term, Memory>
     ensures { IfOk result (λ t. t ≡ term_of_name (setting_of setting.now) name.now from) }
 {
     match setting.scope.locals.names.number(name.as_bytes()) {

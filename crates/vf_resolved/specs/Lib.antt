@@ -1,0 +1,11 @@
+pub mod Stores
+pub mod TruthTree
+pub mod TruthCodes
+pub mod TruthShown
+pub mod AssertionTree
+pub mod AssertionCodes
+pub mod AssertionShown
+pub mod CommandTree
+pub mod CommandCodes
+pub mod CommandShown
+pub mod Apart
