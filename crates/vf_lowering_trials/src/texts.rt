@@ -3,7 +3,6 @@
 use std::alloc::Global;
 use vf_base::{Memory, NumberList, Place, Sequence, Text};
 use vf_lexer::{Token, TokenList, lex};
-use vf_parse_real::plain::parse_plain;
 use vf_parse_whole::parse::parse;
 use vf_resolve::Files;
 use vf_syntax::item::Unit;
@@ -34,26 +33,10 @@ fn tree_of(alloc: Global, read: &[Token]) -> Result<Unit, Memory> {
     }
 }
 
-/// The tree of some tokens without annotations.
-fn plain_tree_of(alloc: Global, read: &[Token]) -> Result<Unit, Memory> {
-    match parse_plain(alloc, read, NumberList::new(alloc), END) {
-        Ok(unit) => Ok(unit),
-        Err(_) => Err(Memory),
-    }
-}
-
 /// The tree of a short text.
 pub fn parsed(alloc: Global, text: &str) -> Result<Unit, Memory> {
     match tokens(alloc, text, false) {
         Ok(read) => tree_of(alloc, read.as_slice()),
-        Err(memory) => Err(memory),
-    }
-}
-
-/// The tree of a short text without its annotations.
-pub fn parsed_plainly(alloc: Global, text: &str) -> Result<Unit, Memory> {
-    match tokens(alloc, text, false) {
-        Ok(read) => plain_tree_of(alloc, read.as_slice()),
         Err(memory) => Err(memory),
     }
 }

@@ -1,24 +1,14 @@
 //! Trials of the machine of whole programs, on small ones.
 //!
-//! Functions are called by pointers, numbers of blocks are given again, threads wait, race and take turns, and runs end
-//! at a fault, at a limit or by a call.
+//! Threads take turns, and runs end at a limit: what a run of the program cannot show. All else that a step does is shown
+//! by the cases of `tests/`, each a program of its own.
 #![tactic(auto)]
 
 #[cfg(test)]
-mod effects;
-#[cfg(test)]
-mod ends;
-#[cfg(test)]
-mod faults;
-#[cfg(test)]
 mod limits;
-#[cfg(test)]
-mod memory;
 #[cfg(test)]
 mod programs;
 #[cfg(test)]
 mod steps;
 #[cfg(test)]
 mod threads;
-#[cfg(test)]
-mod traces;

@@ -6,7 +6,6 @@ use vf_base::{IntType, Memory, Sequence, Text};
 use vf_core::{
     CoreStep, Function, Name, Program, Scalar, Signature, StructBody, Unit, assemble_unit,
 };
-use vf_model::{Event, Outcome};
 use vf_run::Machine;
 
 /// The line of main's closing brace.
@@ -18,21 +17,7 @@ pub(crate) const SECOND: u32 = 101;
 /// The names of all programs here.
 fn names(alloc: Global) -> Result<Sequence<Text>, Memory> {
     let mut names = Sequence::new(alloc);
-    for name in [
-        "a.c#main",
-        "a.c#f",
-        "a.c#s",
-        "<threading.h>#thread_start",
-        "<threading.h>#thread_start_joinable",
-        "<threading.h>#thread_join",
-        "<threading.h>#create_mutex",
-        "<threading.h>#mutex_acquire",
-        "<threading.h>#mutex_release",
-        "<threading.h>#mutex_dispose",
-        "<stdlib.h>#abort",
-        "<stdio.h>#putchar",
-        "<vf_output.h>#print_int",
-    ] {
+    for name in ["a.c#main", "a.c#f", "a.c#s", "<threading.h>#thread_start"] {
         names.push(Text::from_bytes(alloc, name.as_bytes())?)?;
     }
     Ok(names)
@@ -123,28 +108,4 @@ pub(crate) fn machine(alloc: Global, main: &[Act], other: &[Act]) -> Result<Mach
         Ok(other) => machine_with(alloc, main, other),
         Err(fault) => Err(fault),
     }
-}
-
-/// The event of a thread with a grant.
-pub(crate) fn event(thread: u32, grant: u32) -> Event {
-    Event { thread, grant }
-}
-
-/// Takes the events of these threads with these grants.
-pub(crate) fn follow(machine: &mut Machine, events: &[(u32, u32)]) {
-    for (thread, grant) in events {
-        let _stepped = machine.step(event(*thread, *grant));
-    }
-}
-
-/// How a run stands after events.
-pub(crate) fn outcome_of(
-    alloc: Global,
-    main: &[Act],
-    other: &[Act],
-    events: &[(u32, u32)],
-) -> Result<Outcome, Memory> {
-    let mut machine = machine(alloc, main, other)?;
-    follow(&mut machine, events);
-    Ok(machine.outcome())
 }
