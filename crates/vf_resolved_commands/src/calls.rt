@@ -62,13 +62,7 @@ fn used_parameters(own: Option<usize>, number: usize, count: usize) -> usize
     ensures { result ≡ schemes.used_parameters own number count }
 {
     match own {
-        Some(own) => {
-            if own == number {
-                0
-            } else {
-                count
-            }
-        }
+        Some(own) => { if own == number { 0 } else { count } }
         None => count,
     }
 }

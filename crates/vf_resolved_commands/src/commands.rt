@@ -11,9 +11,13 @@ use crate::locals::{assignment_resolved, declaration_resolved};
 use crate::simple::{assert_resolved, call_resolved, close_resolved, leak_resolved, open_resolved};
 use vf_base::{Memory, Place};
 use vf_names::Names;
-use vf_resolved::command::{Command, CommandBranch, CommandBranchList, CommandList, CommandNode as Node};
+use vf_resolved::command::{
+    Command, CommandBranch, CommandBranchList, CommandList, CommandNode as Node,
+};
 use vf_resolved_parts::Progress;
-use vf_resolving::cases::{Switched, case_names, constructor_identity, constructor_place, switch_over};
+use vf_resolving::cases::{
+    Switched, case_names, constructor_identity, constructor_place, switch_over,
+};
 use vf_resolving::reading::{read_at, truth_at};
 use vf_resolving::standing::{leave, put_behind, slots_for};
 use vf_resolving::{Around, Standing};
