@@ -117,6 +117,7 @@ pub fn close_read(
     let taken = chunk_takes(setting.alloc, setting.scope, setting.unknowns, name)?;
     let taken = taken_or_none(setting.alloc, taken);
     let values = values_read(setting, progress.next, &taken, one, two)?;
+    let next = values.others.next;
     let form = form_of(setting, name)?;
     let head = head_for(setting.alloc, form, values.first)?;
     Ok(CommandReading {
@@ -124,6 +125,6 @@ pub fn close_read(
             place,
             node: CommandNode::Close(share, head, values.others.arguments),
         },
-        next: values.others.next,
+        next,
     })
 }
