@@ -1,0 +1,17 @@
+pub mod Results
+pub mod Shares
+pub mod Arguments
+pub mod Places
+pub mod Finding
+pub mod Cells
+pub mod Trying
+pub mod Compared
+pub mod Kept
+pub mod Parting
+pub mod Joining
+pub mod Learning
+pub mod Merging
+pub mod Gathering
+pub mod Taking
+pub mod Reading
+pub mod Shown
