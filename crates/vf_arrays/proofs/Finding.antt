@@ -13,7 +13,7 @@ use Rattle.vf_asking.specs.Course.{Course, done, try, refusal, Follows, Blames, 
 use Rattle.vf_asking.proofs.Following.{follows_try, reaches_try, reaches_step, reaches_end, reaches_blames, reaches_here, follows_done, blames_try, blames_refused}
 use Rattle.vf_chunk.specs.declared.chunk.Chunk.{Chunk}
 use Rattle.vf_take.specs.declared.wanted.Places.{Places}
-use Rattle.vf_take.proofs.Places.{rest_of}
+use Rattle.vf_take.proofs.Positions.{rest_of}
 use Rattle.vf_arrays.specs.declared.rows.Sought.{Sought}
 use Rattle.vf_arrays.specs.declared.rows.Found.{Found}
 use Rattle.vf_arrays.specs.Finding.{index_of, finds_index, or_later}

@@ -14,7 +14,7 @@ use Rattle.vf_take.specs.declared.wanted.Match.{Match}
 use Rattle.vf_take.specs.declared.wanted.Match.TheVariants.{Matches, Lacks, Differs}
 use Rattle.vf_take.specs.Usable.{ArgumentCanBeCompared, ArgumentsCanBeCompared, PatternCanBeCompared, PatternsCanBeCompared}
 use Rattle.vf_take.specs.Fits.{matches, all_match, so_far, is_different}
-use Rattle.vf_take.proofs.Places.{rest_of}
+use Rattle.vf_take.proofs.Positions.{rest_of}
 
 -- an argument and a pattern can be compared where all can
 argument_there : (xs : List Argument) (i : ℕ) (d : Argument) → i < length xs → ArgumentsCanBeCompared xs → ArgumentCanBeCompared (get_or xs i d)

@@ -20,7 +20,7 @@ use Rattle.vf_take.specs.Results.{Faults}
 use Rattle.vf_take.specs.Usable.{known_at, ChunkCanBeCompared}
 use Rattle.vf_take.specs.Reads.{points, content, reads}
 use Rattle.vf_take.proofs.Results.{done_gives, done_faults}
-use Rattle.vf_take.proofs.Places.{rest_of, dropped}
+use Rattle.vf_take.proofs.Positions.{rest_of, dropped}
 
 module _ (places : Places) (path : List Literal) (name : HeadName) (p : Term) where
   -- what follows where a cell's pointer is compared

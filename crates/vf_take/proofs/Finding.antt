@@ -17,7 +17,7 @@ use Rattle.vf_take.specs.declared.wanted.Found.{Found}
 use Rattle.vf_take.specs.declared.wanted.Wanted.{Wanted}
 use Rattle.vf_take.specs.Fits.{tries}
 use Rattle.vf_take.specs.Takes.{finds, or_later}
-use Rattle.vf_take.proofs.Places.{rest_of, dropped}
+use Rattle.vf_take.proofs.Positions.{rest_of, dropped}
 
 -- ---- chunks of other heads are passed over
 module _ (places : Places) (path : List Literal) (w : Wanted) where

@@ -12,7 +12,7 @@ use Rattle.vf_asking.proofs.Following.{reaches_try, reaches_step, reaches_end, r
 use Rattle.vf_chunk.specs.declared.chunk.Argument.{Argument}
 use Rattle.vf_chunk.specs.declared.chunk.Argument.TheVariants.{Unknown}
 use Rattle.vf_take.specs.Merges.{learns_one, learns}
-use Rattle.vf_take.proofs.Places.{rest_of}
+use Rattle.vf_take.proofs.Positions.{rest_of}
 
 left_from : (xs : List Argument) (i : ℕ) (d : Argument) → i < length xs → drop i xs ≡ get_or xs i d ∷ drop (i + 1) xs
 left_from xs i d low = rw add-one (drop-cons xs i d low)

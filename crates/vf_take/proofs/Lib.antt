@@ -1,7 +1,7 @@
 pub mod Results
 pub mod Shares
 pub mod Arguments
-pub mod Places
+pub mod Positions
 pub mod Finding
 pub mod Cells
 pub mod Trying

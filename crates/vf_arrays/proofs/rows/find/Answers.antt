@@ -1,7 +1,7 @@
 -- Chunks, from place to place.
 use Rattle.std.proofs.Common.{refl, ◌∙◌, arith}
 use Rattle.vf_asking.proofs.Seeing.{grew_path, grew_node, grew_begun, grew_on, grew_not}
-use Rattle.vf_take.proofs.Places.{chunk_compared, item_of}
+use Rattle.vf_take.proofs.Positions.{chunk_compared, item_of}
 use Rattle.vf_arrays.proofs.Finding.{index_start, index_step, index_found, index_stops, index_end}
 use Rattle.vf_arrays.proofs.rows.find.Goals as goal
 

@@ -1,7 +1,7 @@
 -- Cells of the field, from place to place.
 use Rattle.std.proofs.Common.{refl, ◌∙◌, ◌+◌, arith}
 use Rattle.vf_asking.proofs.Seeing.{grew_path, grew_node, grew_begun, grew_on, grew_not}
-use Rattle.vf_take.proofs.Places.{chunk_compared, item_of, one_name, next_within, next_is_one}
+use Rattle.vf_take.proofs.Positions.{chunk_compared, item_of, one_name, next_within, next_is_one}
 use Rattle.vf_take.proofs.Cells.{reads_start, reads_step, reads_gives, reads_faults, reads_fail, reads_end}
 use Rattle.vf_take.proofs.contents.read.Goals as goal
 
