@@ -1,0 +1,12 @@
+pub mod Names
+pub mod States
+pub mod Shares
+pub mod Literals
+pub mod Truths
+pub mod Heads
+pub mod Chunks
+pub mod Cases
+pub mod Parts
+pub mod Usable
+pub mod Laws
+pub mod Examples
