@@ -8,9 +8,11 @@
 #![tactic(auto)]
 
 mod laws;
+mod literals;
 mod names;
 mod run;
 mod state;
+mod steps;
 mod way;
 
 pub use laws::{consumes_are_determined, parts_in_examples, produces_are_determined};
