@@ -7,16 +7,22 @@
 //! `parts_in_examples`.
 #![tactic(auto)]
 
+mod cases;
+mod chunks;
+mod heads;
 mod laws;
 mod literals;
 mod names;
 mod run;
+mod shares;
 mod state;
 mod steps;
+mod walk;
 mod way;
 
 pub use laws::{consumes_are_determined, parts_in_examples, produces_are_determined};
 pub use names::Names;
 pub use run::{MOST_ENDS, Run};
 pub use state::{State, StateList};
+pub use walk::{consume, produce};
 pub use way::{Aim, Origins, Way};

@@ -11,13 +11,13 @@ ghost use Rattle.vf_definitions.specs.Filled.{IsNoSymbol};
 ghost use Rattle.vf_take.specs.Results.{Gives};
 ghost use Rattle.vf_asking.specs.Course.{refusal};
 ghost use Rattle.vf_base.specs.declared.refusal.RuleFault.TheVariants.{Refused};
-ghost use Rattle.vf_assert.specs.Names.{stands_for, naming, of_kind, filled, formed, value};
+ghost use Rattle.vf_assert.specs.Names.{stands_for, naming, of_kind, filled, formed, value, argument_value};
 ghost use Rattle.vf_assert.specs.Usable.{NamesCanBeCompared};
 
 use std::alloc::Global;
 use vf_base::{Memory, Place, Refusal, Rule, RuleFault, Sequence, Shown};
 use vf_formula::{Head, Kind, Name, NormalFault, Term, TermList};
-use vf_resolved::pattern::Slot;
+use vf_resolved::pattern::{Argument, Slot};
 use vf_take::Places;
 
 /// What the names of a text stand for: the numbered ones by their numbers, and the three that contracts have. A name
@@ -181,4 +181,15 @@ pub fn value(alloc: Global, names: &Names, text: &Term, places: Places) -> Resul
         }
         None => Err(refused(Rule::Unset, places.part)),
     }
+}
+
+/// The value of an argument, as a term of its sort's kind.
+pub(crate) fn argument_value(alloc: Global, names: &Names, argument: &Argument, places: Places) -> Result<Term, RuleFault>
+    requires text { IsPlain argument.now.term }
+    requires names { NamesCanBeCompared names.now }
+    ensures gives { Gives (argument_value places names.now argument.now) (λ t. t) result }
+    ensures compared { IfOk result CanBeCompared }
+{
+    let term = value(alloc, names, &argument.term, places)?;
+    Ok(as_kind(alloc, argument.kind, term)?)
 }
