@@ -11,7 +11,7 @@ use vf_base::{Memory, Text};
 pub fn firsts(alloc: Global, texts: &[Text]) -> Result<Vec<usize>, Memory>
     ensures { IfOk result (λ f. f.items ≡ map (place texts.now) texts.now) }
 {
-    let mut places: IndexMap<&[u8], usize> = IndexMap::new(alloc);
+    let mut places: IndexMap<&[u8], usize> = IndexMap::with_capacity(alloc, texts.len())?;
     let mut firsts = Vec::with_capacity(alloc, texts.len())?;
     for at in 0..texts.len() {
         let text = texts[at].as_bytes();

@@ -3,7 +3,7 @@
 ghost use Rattle.std.specs.Prelude.{◌≡◌, IfOk, map, length};
 ghost use Rattle.vf_link.specs.Statements.{all_lines, place, shown, statements};
 ghost use Rattle.vf_link.specs.Least.{IsLeastOf};
-ghost use Rattle.vf_link.specs.Linking.{StandsTwice, IsProvidedTwice, Differ, HasTwoBodies, HasTwoDigests};
+ghost use Rattle.vf_link.specs.Linking.{Differ, HasTwoBodies, HasTwoDigests};
 ghost use Rattle.vf_link.specs.Marks.{Marks, IsRepeated, IsContradicted};
 
 use crate::firsts::firsts;
@@ -14,7 +14,7 @@ use vf_base::{Memory, Text};
 use vf_manifest::Manifest;
 
 /// Marks the texts that are mentioned before.
-fn mark_repeats(alloc: Global, firsts: &[usize], texts: &[Text]) -> Result<Vec<bool>, Memory>
+pub fn mark_repeats(alloc: Global, firsts: &[usize], texts: &[Text]) -> Result<Vec<bool>, Memory>
     requires { firsts.now ≡ map (place texts.now) texts.now }
     ensures { IfOk result (λ m. Marks (length texts.now) m.items (IsRepeated texts.now)) }
 {
@@ -23,23 +23,6 @@ fn mark_repeats(alloc: Global, firsts: &[usize], texts: &[Text]) -> Result<Vec<b
         marks.push(firsts[at] != at)?;
     }
     Ok(marks)
-}
-
-/// The least text that stands at two places.
-fn least_repeated(alloc: Global, texts: &[Text]) -> Result<Option<Text>, Memory>
-    ensures { IfOk result (IsLeastOf (StandsTwice texts.now)) }
-{
-    let firsts = firsts(alloc, texts)?;
-    let marks = mark_repeats(alloc, firsts.as_slice(), texts)?;
-    least_marked(alloc, Topic::Provided, texts, marks.as_slice())
-}
-
-/// The least identity that is provided twice.
-pub fn least_provided_twice(alloc: Global, manifests: &[Manifest]) -> Result<Option<Text>, Memory>
-    ensures { IfOk result (IsLeastOf (IsProvidedTwice (all_lines manifests.now))) }
-{
-    let provided = stated(alloc, Topic::Provided, manifests)?;
-    least_repeated(alloc, provided.subjects.as_slice())
 }
 
 /// Marks what is not what is said first of the same subject.

@@ -1,6 +1,6 @@
 //! Whether what is required is provided, and as it is required.
 
-ghost use Rattle.std.specs.Prelude.{◌≡◌, ◌<◌, ◌↔◌, List, IsTrue, IfOk, map, length};
+ghost use Rattle.std.specs.Prelude.{◌≡◌, ◌<◌, ◌≤◌, ◌↔◌, List, IsTrue, IfOk, map, length};
 ghost use Rattle.vf_manifest.specs.declared.line.Line as declared_line;
 ghost use Rattle.vf_link.specs.Statements.{all_lines, place};
 ghost use Rattle.vf_link.specs.Least.{IsLeastOf, HasNone};
@@ -9,6 +9,7 @@ ghost use Rattle.vf_link.specs.Marks.{Marks, IsNoneOf, DisagreesWith, Meets};
 
 use crate::firsts::firsts;
 use crate::least::least_marked;
+use crate::repeats::mark_repeats;
 use crate::statement::{Statements, Topic, stated};
 use std::alloc::Global;
 use vf_base::{Memory, Text};
@@ -45,6 +46,17 @@ impl Requirements {
             provided,
             firsts,
         })
+    }
+
+    /// The least identity that is provided twice.
+    pub fn least_repeated(&self, alloc: Global) -> Result<Option<Text>, Memory>
+        requires firsts { self.now.firsts.items ≡ map (place self.now.statements.subjects.items) self.now.statements.subjects.items }
+        requires within { self.now.provided ≤ length self.now.statements.subjects.items }
+        ensures { IfOk result (λ x. (lines : List declared_line.Line) → Meets lines self.now → IsLeastOf (IsProvidedTwice lines) x) }
+    {
+        let subjects = &self.statements.subjects[..self.provided];
+        let marks = mark_repeats(alloc, &self.firsts[..self.provided], subjects)?;
+        least_marked(alloc, Topic::Provided, subjects, marks.as_slice())
     }
 
     /// Marks the identities that are not provided.
