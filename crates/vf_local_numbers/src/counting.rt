@@ -1,0 +1,27 @@
+//! What is counted so far.
+
+ghost use Rattle.std.specs.Prelude.{◌≡◌, ◌++◌, ◌∷◌, [], length, OnOk};
+
+use vf_base::{Memory, Sequence};
+use vf_bodies::Surroundings;
+use vf_lower::Draft;
+
+/// Where lowering stands in a body, what it lowered so far, and the numbers of the locals that were declared, in the
+/// order of the text.
+#[derive(Drop)]
+pub struct Counting<'a> {
+    pub around: Surroundings,
+    pub draft: Draft<'a>,
+    pub declared: Sequence<usize>,
+}
+
+impl Counting<'_> {
+    /// Notes the number that the next local gets.
+    pub fn note(&mut self) -> Result<(), Memory>
+        ensures noted { OnOk result (self.new.declared ≡ self.old.declared ++ length self.old.draft.locals ∷ []) }
+        ensures around { self.new.around ≡ self.old.around }
+        ensures draft { self.new.draft ≡ self.old.draft }
+    {
+        self.declared.push(self.draft.locals.len())
+    }
+}
