@@ -134,7 +134,7 @@ fn count_if_else<'a>(
 }
 
 /// What stands in a `for` beside its body.
-#[derive(Clone, Copy)]
+#[derive(Drop)]
 struct ForParts<'a> {
     first: &'a Option<First>,
     test: &'a Option<Expr>,
@@ -147,10 +147,10 @@ fn count_turn<'a>(
     counting: &mut Counting<'a>,
     given: CType,
     place: Place,
-    parts: ForParts<'a>,
+    parts: &ForParts<'a>,
     body: &'a Stmt,
 ) -> Result<(), Memory>
-    ensures { OnOk result (counting_of counting.new ≡ for_counted (counted given body.now) place parts.first.now parts.test.now parts.step.now (counting_of counting.old)) }
+    ensures { OnOk result (counting_of counting.new ≡ for_counted (counted given body.now) place parts.now.first.now parts.now.test.now parts.now.step.now (counting_of counting.old)) }
 {
     count_first(counting, place, parts.first)?;
     count_loop_test(counting, parts.test)?;
@@ -164,10 +164,10 @@ fn count_for<'a>(
     counting: &mut Counting<'a>,
     given: CType,
     place: Place,
-    parts: ForParts<'a>,
+    parts: &ForParts<'a>,
     body: &'a Stmt,
 ) -> Result<(), Memory>
-    ensures { OnOk result (counting_of counting.new ≡ inner (for_counted (counted given body.now) place parts.first.now parts.test.now parts.step.now) (counting_of counting.old)) }
+    ensures { OnOk result (counting_of counting.new ≡ inner (for_counted (counted given body.now) place parts.now.first.now parts.now.test.now parts.now.step.now) (counting_of counting.old)) }
 {
     let before = counting.around.mark();
     count_turn(counting, given, place, parts, body)?;
@@ -198,7 +198,7 @@ pub fn count_statement<'a>(
         StmtNode::While(test, _, body) => count_if(counting, given, place, test, body),
         StmtNode::For(first, test, step, _, body) => {
             let parts = ForParts { first, test, step };
-            count_for(counting, given, place, parts, body)
+            count_for(counting, given, place, &parts, body)
         }
         StmtNode::Block(statements, _) => count_block(counting, given, statements),
         StmtNode::Empty => Ok(()),
