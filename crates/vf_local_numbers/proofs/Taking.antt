@@ -1,5 +1,6 @@
 -- What is counted where a part of the text was lowered, and how lowering comes back behind a part whose locals are its own.
-use Rattle.std.proofs.Common.{◌≡◌, ℕ, ◌+◌, List, [], ◌∷◌, ◌++◌, length, refl, sym, ap, ◌∙◌, subst, length-append, Option, Some, None}
+use Rattle.std.proofs.Common.{◌≡◌, ℕ, ◌+◌, List, [], ◌∷◌, ◌++◌, length, refl, sym, ap, ◌∙◌, subst, length-append, Option, Some, None, Result, OnOk}
+use Rattle.vf_base.specs.declared.memory.Memory.{Memory}
 use Rattle.vf_base.specs.declared.place.Place.{Place}
 use Rattle.vf_declared.specs.declared.ctype.CType.{CType}
 use Rattle.vf_syntax.specs.declared.item.Typed.{Typed}
@@ -10,22 +11,28 @@ use Rattle.vf_syntax.specs.ExprTree.{ExprTree}
 use Rattle.vf_syntax.specs.StmtTree.{StmtTree, StmtTrees, no_stmt, more_stmt}
 use Rattle.vf_syntax.specs.StmtTree as tree
 use Rattle.vf_lower.specs.declared.draft.Draft.{Draft}
+use Rattle.vf_lower.specs.Branches.{Test}
 use Rattle.vf_lower.specs.Did.{Did}
-use Rattle.vf_lower.specs.Lowering.{Lowering}
+use Rattle.vf_lower.specs.Expressions.{condition}
+use Rattle.vf_lower.specs.Lowering.{Lowering, taken}
 use Rattle.vf_lower.specs.Settings.{Setting}
-use Rattle.vf_lower.specs.Statements.{at, first_part, statement}
+use Rattle.vf_lower.specs.Statements.{at, first_part, statement, type_in, with_variable}
+use Rattle.vf_lower.proofs.Parts.{did_then}
+use Rattle.vf_typing.specs.Names.{written_type}
+use Rattle.vf_functions.specs.Definitions.{parameter, variable}
+use Rattle.vf_bodies.proofs.Parts.{did_gives}
 use Rattle.vf_bodies.specs.declared.surroundings.Mark.{Mark}
 use Rattle.vf_bodies.specs.Standing.{back_at, mark_of}
 use Rattle.vf_bodies.proofs.Back.{Extends, extends_at, extends_more, first_extends, gone_back, stmt_extends}
-use Rattle.vf_local_numbers.specs.Counting.{Counting, counted, counted_all, first_counted, for_counted, inner, noted, taking, test_counted}
+use Rattle.vf_local_numbers.specs.Counting.{Counting, condition_counted, counted, counted_all, first_counted, for_counted, declaring, inner, noted, taking, test_counted, whole_counted}
+
+-- a state of what is counted
+abbrev state : Setting → ℕ → List ℕ → Counting
+state c n ns = record { setting = c; next = n; declared = ns }
 
 -- a part was lowered, behind which lowering stands where a setting says
-pub took : {A : Type 0} (f : A → Setting) (m : Lowering A) (d e : Draft) (a : A) (c g : Setting) (ns : List ℕ) → Did m d e a → g ≡ f a → record Counting { setting = g; next = length e.locals; declared = ns } ≡ taking f m (record { setting = c; next = length d.locals; declared = ns })
-took f m d e a c g ns h is = λ i. record Counting {
-  setting = (is ∙ ap f h.left) i;
-  next = (ap length h.locals ∙ length-append d.locals (m (length d.locals)).locals) i;
-  declared = ns;
-}
+pub took : {A : Type 0} (f : A → Setting) (m : Lowering A) (d e : Draft) (a : A) (c g : Setting) (ns : List ℕ) → Did m d e a → g ≡ f a → state g (length e.locals) ns ≡ taking f m (record { setting = c; next = length d.locals; declared = ns })
+took f m d e a c g ns h is = λ i. state ((is ∙ ap f h.left) i) ((ap length h.locals ∙ length-append d.locals (m (length d.locals)).locals) i) ns
 
 -- behind a part lowering has the locals that it had in front of it, and perhaps more
 counted_extends : (r : CType) (x : StmtTree) (s : Counting) → Extends s.setting (counted r x s).setting
@@ -55,11 +62,7 @@ first_extends_all p f s = extends_more s.setting (at s.setting p) _ (extends_at 
 
 -- behind a part whose locals are its own lowering stands where it stood, and what was counted stays
 back : (f : Counting → Counting) (s t u : Counting) (k : Mark) → Extends s.setting (f s).setting → t ≡ f s → k ≡ mark_of s.setting → u.setting ≡ back_at k t.setting → u.next ≡ t.next → u.declared ≡ t.declared → u ≡ inner f s
-back f s t u k h is marked gone next declared = λ i. record Counting {
-  setting = gone_back s.setting (f s).setting u.setting k marked (gone ∙ ap (λ v. back_at k v.setting) is) h i;
-  next = (next ∙ ap (λ (v : Counting). v.next) is) i;
-  declared = (declared ∙ ap (λ (v : Counting). v.declared) is) i;
-}
+back f s t u k h is marked gone next declared = λ i. state (gone_back s.setting (f s).setting u.setting k marked (gone ∙ ap (λ (v : Counting). back_at k v.setting) is) h i) ((next ∙ ap (λ (v : Counting). v.next) is) i) ((declared ∙ ap (λ (v : Counting). v.declared) is) i)
 
 pub stmt_back : (r : CType) (x : StmtTree) (s t u : Counting) (k : Mark) → t ≡ counted r x s → k ≡ mark_of s.setting → u.setting ≡ back_at k t.setting → u.next ≡ t.next → u.declared ≡ t.declared → u ≡ inner (counted r x) s
 stmt_back r x s t u k = back (counted r x) s t u k (counted_extends r x s)
@@ -69,3 +72,27 @@ stmts_back r xs s t u k = back (counted_all r xs) s t u k (all_extend r xs s)
 
 pub for_back : (F : Counting → Counting) (p : Place) (f : Option First) (e : Option ExprTree) (x : Option Simple) (s t u : Counting) (k : Mark) → t ≡ for_counted F p f e x s → k ≡ mark_of s.setting → u.setting ≡ back_at k t.setting → u.next ≡ t.next → u.declared ≡ t.declared → u ≡ inner (for_counted F p f e x) s
 for_back F p f e x s t u k = back (for_counted F p f e x) s t u k (first_extends_all p f s)
+
+-- what stands first in a `for` was noted, and then lowered
+pub first_took : (p : Place) (f : Option First) (s t u : Counting) → t ≡ noted f s → u ≡ taking (λ c. c) (first_part (at t.setting p) f) t → u ≡ first_counted p f s
+first_took p f s t u e h = h ∙ ap (λ (v : Counting). taking (λ c. c) (first_part (at v.setting p) f) v) e ∙ ap (λ (q : Setting). taking (λ c. c) (first_part (at q p) f) (noted f s)) (noted_stands f s)
+
+-- a parameter of a type was declared
+pub parameter_took : (c : Setting) (x : Typed) (t : CType) (d e : Draft) (k : ℕ) (g : Setting) (ns : List ℕ) → t ≡ type_in (written_type c.scope x.written) → Did (taken t) d e k → g ≡ with_variable c x.name.text t k → state g (length e.locals) ns ≡ taking (λ c. c) (parameter c x) (record { setting = c; next = length d.locals; declared = ns })
+parameter_took c x t d e k g ns same h is =
+    let one : Did (variable c x.name.text t) d e g = did_then _ _ _ _ _ _ _ h (did_gives _ _ _ is) in
+    took (λ c. c) (parameter c x) d e g c g ns (subst (λ u. Did (variable c x.name.text u) d e g) same one) refl
+
+-- one answer or another, where a statement is of a form
+pub of_form : (r : CType) (x y : StmtTree) (s u : Counting) (res : Result (Unit {0}) Memory) → x ≡ y → OnOk res (u ≡ counted r y s) → OnOk res (u ≡ counted r x s)
+of_form r x y s u res is h = subst (λ z. OnOk res (u ≡ counted r z s)) (sym is) h
+
+pub whole_form : (r : CType) (x y : StmtTree) (s u : Counting) (res : Result (Unit {0}) Memory) → x ≡ y → OnOk res (u ≡ whole_counted r x s) → OnOk res (u ≡ whole_counted r y s)
+whole_form r x y s u res is h = subst (λ z. OnOk res (u ≡ whole_counted r z s)) is h
+
+pub declared_form : (r : CType) (x y : StmtTree) (s u : Counting) (res : Result (Unit {0}) Memory) → x ≡ y → OnOk res (u ≡ declaring (statement s.setting r x) s) → OnOk res (u ≡ declaring (statement s.setting r y) s)
+declared_form r x y s u res is h = subst (λ z. OnOk res (u ≡ declaring (statement s.setting r z) s)) is h
+
+-- a test at a place was lowered in a setting there
+pub condition_took : (p : Place) (e : ExprTree) (c g : Setting) (d f : Draft) (a : Test) (ns : List ℕ) → g ≡ at c p → Did (condition g e) d f a → state c (length f.locals) ns ≡ condition_counted p e (state c (length d.locals) ns)
+condition_took p e c g d f a ns same h = took (λ b. c) (condition (at c p) e) d f a c c ns (subst (λ (q : Setting). Did (condition q e) d f a) same h) refl

@@ -39,9 +39,13 @@ taking f m s = record { setting = f (m s.next).left; next = s.next + length (m s
 abbrev pub passing : {A : Type 0} → Lowering A → Counting → Counting
 passing m s = taking (λ a. s.setting) m s
 
+-- the number that the next local gets is that of one that is declared
+abbrev pub noting : Counting → Counting
+noting s = record { setting = s.setting; next = s.next; declared = s.declared ++ s.next ∷ [] }
+
 -- the next local is declared, and more is taken for it
 abbrev pub declaring : Lowering Setting → Counting → Counting
-declaring m s = record { setting = (m s.next).left; next = s.next + length (m s.next).locals; declared = s.declared ++ s.next ∷ [] }
+declaring m s = taking (λ c. c) m (noting s)
 
 -- a part behind which lowering stands where it stood in front of it
 abbrev pub inner : (Counting → Counting) → Counting → Counting
@@ -49,7 +53,7 @@ inner f s = record { setting = s.setting; next = (f s).next; declared = (f s).de
 
 -- the number of the next local is that of one that is declared, where the first part of a `for` declares one
 abbrev pub noted : Option First → Counting → Counting
-noted (Some (firsts.Declaration w x e)) s = record { setting = s.setting; next = s.next; declared = s.declared ++ s.next ∷ [] }
+noted (Some (firsts.Declaration w x e)) s = noting s
 noted f s = s
 
 -- what stands first in a `for` at a place

@@ -1,6 +1,7 @@
 //! What is counted so far.
 
-ghost use Rattle.std.specs.Prelude.{◌≡◌, ◌++◌, ◌∷◌, [], length, OnOk};
+ghost use Rattle.std.specs.Prelude.{◌≡◌, OnOk};
+ghost use Rattle.vf_local_numbers.specs.Counting.{counting_of, noting};
 
 use vf_base::{Memory, Sequence};
 use vf_bodies::Surroundings;
@@ -18,10 +19,9 @@ pub struct Counting<'a> {
 impl Counting<'_> {
     /// Notes the number that the next local gets.
     pub fn note(&mut self) -> Result<(), Memory>
-        ensures noted { OnOk result (self.new.declared ≡ self.old.declared ++ length self.old.draft.locals ∷ []) }
-        ensures around { self.new.around ≡ self.old.around }
-        ensures draft { self.new.draft ≡ self.old.draft }
+        ensures { OnOk result (counting_of self.new ≡ noting (counting_of self.old)) }
     {
-        self.declared.push(self.draft.locals.len())
+        self.declared.push(self.draft.locals.len())?;
+        Ok(())
     }
 }

@@ -46,7 +46,8 @@ fn count_parameter(counting: &mut Counting<'_>, typed: &Typed) -> Result<(), Mem
     counting.note()?;
     let ctype = type_in(written_type(&counting.around.scope, &typed.written));
     let local = counting.draft.take(ctype)?;
-    counting.around.declare(&typed.name, ctype, local)
+    counting.around.declare(&typed.name, ctype, local)?;
+    Ok(())
 }
 
 /// Parameters in order.
@@ -83,7 +84,8 @@ fn count_function<'a>(
 {
     let given = given(&counting.around.scope, &signature.result);
     count_parameters(counting, &signature.parameters)?;
-    count_statements(counting, given, &body.statements)
+    count_statements(counting, given, &body.statements)?;
+    Ok(())
 }
 
 /// The numbers of the locals that a function declares with its body, where these things are declared and no locals are:

@@ -36,7 +36,8 @@ fn count_declaration<'a>(
     ensures { OnOk result (counting_of counting.new ≡ declaring (statement (counting_of counting.old).setting given item.now) (counting_of counting.old)) }
 {
     counting.note()?;
-    count_whole(counting, given, item)
+    count_whole(counting, given, item)?;
+    Ok(())
 }
 
 /// A test at a place.
@@ -113,7 +114,8 @@ fn count_if<'a>(
     ensures { OnOk result (counting_of counting.new ≡ inner (counted given yes.now) (condition_counted place test.now (counting_of counting.old))) }
 {
     count_condition(counting, place, test)?;
-    count_inner(counting, given, yes)
+    count_inner(counting, given, yes)?;
+    Ok(())
 }
 
 /// A test at a place, and two statements behind it.
@@ -130,7 +132,8 @@ fn count_if_else<'a>(
 {
     count_condition(counting, place, test)?;
     count_inner(counting, given, yes)?;
-    count_inner(counting, given, no)
+    count_inner(counting, given, no)?;
+    Ok(())
 }
 
 /// What stands in a `for` beside its body.
@@ -155,7 +158,8 @@ fn count_turn<'a>(
     count_first(counting, place, parts.first)?;
     count_loop_test(counting, parts.test)?;
     count_inner(counting, given, body)?;
-    count_step(counting, parts.step)
+    count_step(counting, parts.step)?;
+    Ok(())
 }
 
 /// A `for` at a place.

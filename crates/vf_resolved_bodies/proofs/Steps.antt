@@ -67,9 +67,13 @@ invariant_told {paths = paths} {x = x} {s = s} {u = u} {k = k} a i f =
     record { answers = subst (λ (z : PartsResolved). InvariantResolves paths x s z) (e ∙ f) (invariants.InvariantResolves.resolves i.answers) }
 
 -- ---- ghost commands
+-- what is told and declared
+abbrev state : Standing → List ℕ → List Annotation → Telling
+state t ns xs = record { standing = t; reals = ns; told = xs }
+
 -- one annotation more at the end
-appended : (x : Annotation) (t : Standing) (s : Telling) (xs : List Annotation) → xs ≡ s.told ++ x ∷ [] → record { standing = t; reals = s.reals; told = xs } ≡ telling x t s
-appended x t s xs h = ap (λ (ys : List Annotation). record Telling { standing = t; reals = s.reals; told = ys }) h
+appended : (x : Annotation) (t : Standing) (s : Telling) (xs : List Annotation) → xs ≡ s.told ++ x ∷ [] → state t s.reals xs ≡ telling x t s
+appended x t s xs h = ap (state t s.reals) h
 
 pub command_memory : {P : Told → Type 0} {t : Telling} {res : Result (Unit {0}) RuleFault} → res ≡ Err faults.Memory → Follows P res t
 command_memory {P = P} {t = t} q = subst (λ (r : Result (Unit {0}) RuleFault). Follows P r t) (sym q) walking.out_of_memory
@@ -88,7 +92,7 @@ command_refused {paths = paths} {x = x} {s = s} {t = t} e a i q =
     let h : (r : Refusal) → CommandFails _ s.standing.scope [] x r → TellsCommand paths x s (Err r) = λ r f. statements.TellsCommand.refused (subst (λ (w : Around). CommandFails w s.standing.scope [] x r) a f) in
     subst (λ (r : Result (Unit {0}) RuleFault). Follows (TellsCommand paths x s) r t) (sym q) (fault e t (refusals e h i.answers))
 
-pub command_told : {paths : List (List ℕ)} {x : GhostCommandTree} {w : Around} {s : Telling} {u : Standing} {y : CommandTree} {xs : List Annotation} → w ≡ around_statements → IsCommandTold w paths x s.standing (Ok y) u → xs ≡ s.told ++ annotations.Command y ∷ [] → Follows (TellsCommand paths x s) (Ok tt) (record { standing = u; reals = s.reals; told = xs })
+pub command_told : {paths : List (List ℕ)} {x : GhostCommandTree} {w : Around} {s : Telling} {u : Standing} {y : CommandTree} {xs : List Annotation} → w ≡ around_statements → IsCommandTold w paths x s.standing (Ok y) u → xs ≡ s.told ++ annotations.Command y ∷ [] → Follows (TellsCommand paths x s) (Ok tt) (state u s.reals xs)
 command_told {paths = paths} {x = x} {s = s} {u = u} {y = y} a i h =
     let resolves = subst (λ (w : Around). CommandResolves w paths x s.standing (record { command = y; standing = u })) a i.answers in
     subst (λ (t : Telling). Follows (TellsCommand paths x s) (Ok tt) t) (sym (appended (annotations.Command y) u s _ h)) (walking.to_end (statements.TellsCommand.told resolves))
@@ -98,14 +102,14 @@ pub invariant_refused : {paths : List (List ℕ)} {x : Invariant} {s t : Telling
 invariant_refused {paths = paths} {x = x} {s = s} {t = t} e i q =
     subst (λ (r : Result (Unit {0}) RuleFault). Follows (TellsInvariant paths x s) r t) (sym q) (fault e t (refusals e (λ r f. statements.TellsInvariant.refused f) i.answers))
 
-pub loop_told : {paths : List (List ℕ)} {x : Invariant} {s : Telling} {u : Standing} {y : List PartTree} {xs : List Annotation} → IsInvariantTold paths x s.standing (Ok y) u → xs ≡ s.told ++ annotations.Loop (Some y) ∷ [] → Follows (TellsInvariant paths x s) (Ok tt) (record { standing = u; reals = s.reals; told = xs })
+pub loop_told : {paths : List (List ℕ)} {x : Invariant} {s : Telling} {u : Standing} {y : List PartTree} {xs : List Annotation} → IsInvariantTold paths x s.standing (Ok y) u → xs ≡ s.told ++ annotations.Loop (Some y) ∷ [] → Follows (TellsInvariant paths x s) (Ok tt) (state u s.reals xs)
 loop_told {paths = paths} {x = x} {s = s} {u = u} {y = y} i h =
     subst (λ (t : Telling). Follows (TellsInvariant paths x s) (Ok tt) t) (sym (appended (annotations.Loop (Some y)) u s _ h)) (walking.to_end (statements.TellsInvariant.told i.answers))
 
-pub bare_told : {paths : List (List ℕ)} {i : Option Invariant} {s : Telling} {xs : List Annotation} → i ≡ None → xs ≡ s.told ++ annotations.Loop None ∷ [] → Follows (TellsLoop paths i s) (Ok tt) (record { standing = s.standing; reals = s.reals; told = xs })
+pub bare_told : {paths : List (List ℕ)} {i : Option Invariant} {s : Telling} {xs : List Annotation} → i ≡ None → xs ≡ s.told ++ annotations.Loop None ∷ [] → Follows (TellsLoop paths i s) (Ok tt) (state s.standing s.reals xs)
 bare_told {paths = paths} {s = s} {xs = xs} e h =
     let bare : Follows (TellsLoop paths None s) (Ok tt) (with_loop None s.standing s) = walking.to_end (record { is = refl }) in
-    subst (λ (i : Option Invariant). Follows (TellsLoop paths i s) (Ok tt) (record { standing = s.standing; reals = s.reals; told = xs })) (sym e) (subst (λ (t : Telling). Follows (TellsLoop paths None s) (Ok tt) t) (sym (appended (annotations.Loop None) s.standing s xs h)) bare)
+    subst (λ (i : Option Invariant). Follows (TellsLoop paths i s) (Ok tt) (state s.standing s.reals xs)) (sym e) (subst (λ (t : Telling). Follows (TellsLoop paths None s) (Ok tt) t) (sym (appended (annotations.Loop None) s.standing s xs h)) bare)
 
 pub with_invariant : {paths : List (List ℕ)} {i : Option Invariant} {x : Invariant} {s t : Telling} {res : Result (Unit {0}) RuleFault} → i ≡ Some x → Follows (TellsInvariant paths x s) res t → Follows (TellsLoop paths i s) res t
 with_invariant {paths = paths} {s = s} {t = t} {res = res} e h = subst (λ (i : Option Invariant). Follows (TellsLoop paths i s) res t) (sym e) h

@@ -1,0 +1,7 @@
+use Rattle.std.proofs.Common.{refl}
+use Rattle.vf_bodies.specs.Standing.{standing_of}
+use Rattle.vf_local_numbers.proofs.Taking.{took}
+use Rattle.vf_local_numbers.proofs.statement.count_whole.Goals as goal
+
+pub returns : goal.returns
+returns c = took (λ d. d) _ _ _ _ (standing_of c.args.counting.now.around) _ _ c.in_ok-lower_statement.ensures refl
