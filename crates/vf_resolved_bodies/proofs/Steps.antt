@@ -132,4 +132,4 @@ body_stops {paths = paths} {n = n} {xs = xs} {s = s} e a h q =
 
 pub body_tells : {paths : List (List ℕ)} {n : ℕ} {xs : List StmtTree} {s : Standing} {b t : Telling} → b ≡ beginning n s → Follows (TellsStmts paths (stmt_list xs) b) (Ok tt) t → IsBodyTold paths n xs s (Ok (told_of n t))
 body_tells {paths = paths} {n = n} {xs = xs} {s = s} {t = t} a (walking.to_end h) =
-    record { answers = bodies.BodyTells.tells (subst (λ (b : Telling). TellsStmts paths (stmt_list xs) b (Ok t)) a h) }
+    record { answers = bodies.BodyTells.tells t (subst (λ (b : Telling). TellsStmts paths (stmt_list xs) b (Ok t)) a h) }

@@ -29,7 +29,7 @@ told_of n t = record { annotated = annotated n t; scope = t.standing.scope }
 
 -- a body with so many parameters tells this, behind its contract
 pub data BodyTells (paths : List (List ℕ)) (n : ℕ) (xs : List StmtTree) (s : Standing) : BodyTold → Type 0 where
-  tells : {t : Telling} → TellsStmts paths (stmt_list xs) (beginning n s) (Ok t) → BodyTells paths n xs s (told_of n t)
+  tells : (t : Telling) → TellsStmts paths (stmt_list xs) (beginning n s) (Ok t) → BodyTells paths n xs s (told_of n t)
 
 -- an answer for a body is what it tells, or the first refusal in it
 pub record IsBodyTold (paths : List (List ℕ)) (n : ℕ) (xs : List StmtTree) (s : Standing) (r : Result BodyTold RuleFault) : Type 0 where

@@ -180,7 +180,7 @@ pub data FormTells (paths : List (List ℕ)) (s : Scope) (u : Told) : GhostForm 
   predicate : {n : Name} {gs : List GhostParameter} {a : List PartTree} {y : BodyRead} → PredicateResolves paths [] gs a s y → FormTells paths s u (forms.PredicateBody n gs a) (with_entry (predicate_entry paths n s y) u) (without_locals y.standing.scope)
   constructor : {n : Name} {fs gs : List GhostParameter} {a : List PartTree} {y : BodyRead} → PredicateResolves paths fs gs a s y → FormTells paths s u (forms.PredicateConstructor n fs gs a) (with_entry (constructor_entry paths n fs s y) u) (without_locals y.standing.scope)
   body_of_family : {f g : Name} {gs : List GhostParameter} {a : List PartTree} {y : BodyRead} → PredicateResolves paths [] gs a s y → FormTells paths s u (forms.Instance f g gs a) (with_entry (instance_entry paths f g s y) u) (without_locals y.standing.scope)
-  lemma_prototype : {n : Name} {ns : List Name} {gs : List GhostParameter} {c : written.Contract} {y : ContractRead} {k : Kept} → LemmaResolves paths (texts ns) gs c s y → IsKept (length u.entries) y.standing k → FormTells paths s u (forms.LemmaPrototype n ns gs c) (behind_lemma_prototype (lemma_number s n) k (lemma_prototype_entry paths n s y) u) (without_locals y.standing.scope)
+  lemma_prototype : {n : Name} {ns : List Name} {gs : List GhostParameter} {c : written.Contract} {y : ContractRead} (k : Kept) → LemmaResolves paths (texts ns) gs c s y → IsKept (length u.entries) y.standing k → FormTells paths s u (forms.LemmaPrototype n ns gs c) (behind_lemma_prototype (lemma_number s n) k (lemma_prototype_entry paths n s y) u) (without_locals y.standing.scope)
   lemma_body : {n : Name} {ns : List Name} {gs : List GhostParameter} {c : Option written.Contract} {x : GhostBody} {b : Begun} {y : CommandsResolved} → LemmaBegins paths (texts ns) gs s c (taken (lemma_number s n) u.lemmas) b → CommandsResolve (around_body (lemma_number s n) (texts ns)) paths x.commands b.standing y → FormTells paths s u (forms.Lemma n ns gs c x) (behind_lemma (lemma_number s n) (lemma_entry paths n gs x s (taken (lemma_number s n) u.lemmas) b y) u) (without_locals y.standing.scope)
   datatype : {n : Name} {ns : List Name} {b : _} {cs : _} → FormTells paths s u (forms.Inductive n ns b cs) u s
   fixpoint : {t : _} {n : Name} {ns : List Name} {gs : List GhostParameter} {b : _} → FormTells paths s u (forms.Fixpoint t n ns gs b) u s
@@ -199,7 +199,7 @@ pub data FormStops (paths : List (List ℕ)) (s : Scope) (u : Told) : GhostForm 
 -- an item tells this, where what it declares is declared, and leaves this told and declared
 pub data ItemTells (paths : List (List ℕ)) (s : Scope) (u : Told) : Item → Told → Scope → Type 0 where
   function_type : {p : Place} {g : WrittenSignature} {c : Option written.Contract} {b : Begun} → OwnBegins paths g true c s b → ItemTells paths s u (items.FunctionType p g c) (with_entry (type_entry paths g s b) u) (without_locals b.standing.scope)
-  prototype : {g : WrittenSignature} {q : Option Claim} {c : Option written.Contract} {b : Begun} {k : Kept} → OwnBegins paths g false c s b → IsKept (length u.entries) b.standing k → ItemTells paths s u (items.Prototype g q c) (behind_prototype (function_number s g.name) k (prototype_entry paths g q s b) u) (without_locals b.standing.scope)
+  prototype : {g : WrittenSignature} {q : Option Claim} {c : Option written.Contract} {b : Begun} (k : Kept) → OwnBegins paths g false c s b → IsKept (length u.entries) b.standing k → ItemTells paths s u (items.Prototype g q c) (behind_prototype (function_number s g.name) k (prototype_entry paths g q s b) u) (without_locals b.standing.scope)
   function : {g : WrittenSignature} {q : Option Claim} {c : Option written.Contract} {x : Body} {b : Begun} {y : BodyTold} → DefinitionBegins paths g s c (taken (function_number s g.name) u.functions) b → BodyTells paths (length (listed g.parameters)) x.statements b.standing y → ItemTells paths s u (items.Function g q c x) (behind_function (function_number s g.name) (function_entry paths g q x s (taken (function_number s g.name) u.functions) b y) u) (without_locals y.scope)
   opaque_struct : {p : Place} {n : Name} → ItemTells paths s u (items.Opaque p n) u s
   whole_struct : {p : Place} {n : Name} {xs : _} → ItemTells paths s u (items.Struct p n xs) u s

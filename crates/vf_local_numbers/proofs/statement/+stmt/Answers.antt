@@ -1,18 +1,18 @@
 use Rattle.std.proofs.Common.{rules, ◌≡◌, refl, ap, ◌∙◌, sym}
 use Rattle.vf_syntax.specs.StmtTree.{StmtTree, stmt_list}
 use Rattle.vf_syntax.specs.StmtTree as tree
-use Rattle.vf_local_numbers.specs.Counting.{counted, inner, step_counted, test_counted}
+use Rattle.vf_local_numbers.specs.Counting.{counted, counting_of, inner, step_counted, test_counted}
 use Rattle.vf_local_numbers.proofs.Taking.{declared_form, for_back, of_form, stmt_back, stmts_back, whole_form}
 use Rattle.vf_local_numbers.proofs.statement.+stmt.Goals as goal
 
 pub count_inner-returns : goal.count_inner-returns
-count_inner-returns t c = stmt_back _ _ _ _ _ _ c.in_ok-count_statement.ensures c.mark-before.ensures c.leave.ensures refl refl
+count_inner-returns t c = stmt_back c.args.given c.args.item.now (counting_of c.args.counting.now) (counting_of c.count_statement.new.counting) _ _ c.in_ok-count_statement.ensures c.mark-before.ensures c.leave.ensures refl refl
 
 pub count_block-returns : goal.count_block-returns
-count_block-returns t c = stmts_back _ _ _ _ _ _ c.in_ok-count_statements.ensures c.mark-before.ensures c.leave.ensures refl refl
+count_block-returns t c = stmts_back c.args.given (stmt_list c.args.items.now) (counting_of c.args.counting.now) (counting_of c.count_statements.new.counting) _ _ c.in_ok-count_statements.ensures c.mark-before.ensures c.leave.ensures refl refl
 
 pub count_for-returns : goal.count_for-returns
-count_for-returns t c = for_back _ _ _ _ _ _ _ _ _ c.in_ok-count_turn.ensures c.mark-before.ensures c.leave.ensures refl refl
+count_for-returns t c = for_back (counted c.args.given c.args.body.now) c.args.place c.args.parts.now.first.now c.args.parts.now.test.now c.args.parts.now.step.now (counting_of c.args.counting.now) (counting_of c.count_turn.new.counting) _ _ c.in_ok-count_turn.ensures c.mark-before.ensures c.leave.ensures refl refl
 
 pub count_if-returns : goal.count_if-returns
 count_if-returns t c = c.in_ok-count_inner.ensures ∙ ap (inner (counted c.args.given c.args.yes.now)) c.in_ok-count_condition.ensures
