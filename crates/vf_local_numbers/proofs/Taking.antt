@@ -8,23 +8,27 @@ use Rattle.vf_syntax.specs.declared.simple.First.{First}
 use Rattle.vf_syntax.specs.declared.simple.First.TheVariants as firsts
 use Rattle.vf_syntax.specs.declared.simple.Simple.{Simple}
 use Rattle.vf_syntax.specs.ExprTree.{ExprTree}
-use Rattle.vf_syntax.specs.StmtTree.{StmtTree, StmtTrees, no_stmt, more_stmt}
+use Rattle.vf_syntax.specs.StmtTree.{StmtTree, StmtTrees, no_stmt, more_stmt, stmt_list}
 use Rattle.vf_syntax.specs.StmtTree as tree
 use Rattle.vf_lower.specs.declared.draft.Draft.{Draft}
 use Rattle.vf_lower.specs.Branches.{Test}
 use Rattle.vf_lower.specs.Did.{Did}
 use Rattle.vf_lower.specs.Expressions.{condition}
-use Rattle.vf_lower.specs.Lowering.{Lowering, taken}
+use Rattle.vf_lower.specs.Lowering.{Lowering, gives, taken, ◌⨾◌}
 use Rattle.vf_lower.specs.Settings.{Setting}
 use Rattle.vf_lower.specs.Statements.{at, first_part, statement, type_in, with_variable}
 use Rattle.vf_lower.proofs.Parts.{did_then}
 use Rattle.vf_typing.specs.Names.{written_type}
-use Rattle.vf_functions.specs.Definitions.{parameter, variable}
+use Rattle.vf_functions.specs.Definitions.{given, parameter, variable}
+use Rattle.vf_walk.specs.Items.{listed}
+use Rattle.vf_syntax.specs.declared.item.Body.{Body}
+use Rattle.vf_syntax.specs.declared.item.Signature.{Signature as WrittenSignature}
+use Rattle.vf_declared.specs.declared.locals.Local.TheVariants as locals
 use Rattle.vf_bodies.proofs.Parts.{did_gives}
 use Rattle.vf_bodies.specs.declared.surroundings.Mark.{Mark}
 use Rattle.vf_bodies.specs.Standing.{back_at, mark_of}
 use Rattle.vf_bodies.proofs.Back.{Extends, extends_at, extends_more, first_extends, gone_back, stmt_extends}
-use Rattle.vf_local_numbers.specs.Counting.{Counting, condition_counted, counted, counted_all, first_counted, for_counted, declaring, inner, noted, taking, test_counted, whole_counted}
+use Rattle.vf_local_numbers.specs.Counting.{Counting, condition_counted, counted, counted_all, first_counted, for_counted, declaring, inner, noted, parameters_counted, taking, test_counted, whole_counted, whole_function}
 
 -- a state of what is counted
 abbrev state : Setting → ℕ → List ℕ → Counting
@@ -96,3 +100,19 @@ declared_form r x y s u res is h = subst (λ z. OnOk res (u ≡ declaring (state
 -- a test at a place was lowered in a setting there
 pub condition_took : (p : Place) (e : ExprTree) (c g : Setting) (d f : Draft) (a : Test) (ns : List ℕ) → g ≡ at c p → Did (condition g e) d f a → state c (length f.locals) ns ≡ condition_counted p e (state c (length d.locals) ns)
 condition_took p e c g d f a ns same h = took (λ b. c) (condition (at c p) e) d f a c c ns (subst (λ (q : Setting). Did (condition q e) d f a) same h) refl
+
+-- behind a parameter there is one local more, and behind parameters there are more
+parameter_extends : (c : Setting) (x : Typed) (n : ℕ) → Extends c (parameter c x n).left
+unfolding ◌⨾◌ gives taken
+parameter_extends c x n = record { names = x.name.text ∷ []; meanings = locals.Real (type_in (written_type c.scope x.written)) ∷ []; numbers = n ∷ []; is = refl }
+
+parameters_extend : (xs : List Typed) (s : Counting) → Extends s.setting (parameters_counted xs s).setting
+parameters_extend [] s = extends_at s.setting s.setting.statement
+parameters_extend (x ∷ xs) s = extends_more s.setting (declaring (parameter s.setting x) s).setting _ (parameter_extends s.setting x s.next) (parameters_extend xs (declaring (parameter s.setting x) s))
+
+-- behind a whole function what is declared is what was declared in front of it
+pub function_back : (g : WrittenSignature) (b : Body) (s t : Counting) (e : Setting) (k : Mark) → t ≡ whole_function g b s → k ≡ mark_of s.setting → e ≡ back_at k t.setting → e.scope ≡ s.setting.scope
+function_back g b s t e k is marked gone =
+    let behind = parameters_counted (listed g.parameters) s in
+    let more = extends_more s.setting behind.setting (whole_function g b s).setting (parameters_extend (listed g.parameters) s) (all_extend (given s.setting.scope g.«result») (stmt_list b.statements) behind) in
+    ap (λ (c : Setting). c.scope) (gone_back s.setting (whole_function g b s).setting e k marked (gone ∙ ap (λ (v : Counting). back_at k v.setting) is) more)

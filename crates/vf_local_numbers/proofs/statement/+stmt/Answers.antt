@@ -2,6 +2,7 @@ use Rattle.std.proofs.Common.{rules, ◌≡◌, refl, ap, ◌∙◌, sym}
 use Rattle.vf_syntax.specs.StmtTree.{StmtTree, stmt_list}
 use Rattle.vf_syntax.specs.StmtTree as tree
 use Rattle.vf_local_numbers.specs.Counting.{counted, counting_of, inner, step_counted, test_counted}
+use Rattle.vf_local_numbers.proofs.Lists.{counted_more}
 use Rattle.vf_local_numbers.proofs.Taking.{declared_form, for_back, of_form, stmt_back, stmts_back, whole_form}
 use Rattle.vf_local_numbers.proofs.statement.+stmt.Goals as goal
 
@@ -13,6 +14,9 @@ count_block-returns t c = stmts_back c.args.given (stmt_list c.args.items.now) (
 
 pub count_for-returns : goal.count_for-returns
 count_for-returns t c = for_back (counted c.args.given c.args.body.now) c.args.place c.args.parts.now.first.now c.args.parts.now.test.now c.args.parts.now.step.now (counting_of c.args.counting.now) (counting_of c.count_turn.new.counting) _ _ c.in_ok-count_turn.ensures c.mark-before.ensures c.leave.ensures refl refl
+
+pub count_statements-loop-at-preserved : goal.count_statements-loop-at-preserved
+count_statements-loop-at-preserved t c = counted_more c.args.given c.args.items.now c.loop-at.at c.in-Some.item.now (counting_of c.loop-at.counting) (counting_of c.count_statement.new.counting) _ (sym c.in-Some.ensures) c.in_ok-count_statement.ensures c.loop-at.invariant
 
 pub count_if-returns : goal.count_if-returns
 count_if-returns t c = c.in_ok-count_inner.ensures ∙ ap (inner (counted c.args.given c.args.yes.now)) c.in_ok-count_condition.ensures
