@@ -9,7 +9,7 @@ use Rattle.vf_cycles.specs.Graphs.{Edge, AreEdges, MarksCycles, HasNoCycle, Each
 use Rattle.vf_cycles.proofs.Ways.{carried}
 use Rattle.vf_manifest.specs.declared.line.Line.{Line}
 use Rattle.vf_link.specs.declared.statement.Topic.TheVariants.{Calls}
-use Rattle.vf_link.specs.declared.statement.Statement.{Statement}
+use Rattle.vf_link.specs.Statements.{Statement}
 use Rattle.vf_link.specs.Statements.{statements, subjects, contents, place}
 use Rattle.vf_link.specs.Least.{HasNone, IsLeastOf, IsMarkedText}
 use Rattle.vf_link.specs.Linking.{CallsItself, IsCallOrder}

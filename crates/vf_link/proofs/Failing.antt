@@ -8,7 +8,7 @@ use Rattle.std.proofs.lemmas.Slice.Eq.{bytes_eq-Decides}
 use Rattle.vf_manifest.specs.declared.line.Line.{Line}
 use Rattle.vf_link.specs.declared.statement.Topic.{Topic}
 use Rattle.vf_link.specs.declared.statement.Topic.TheVariants.{Provided, Required}
-use Rattle.vf_link.specs.declared.statement.Statement.{Statement}
+use Rattle.vf_link.specs.Statements.{Statement}
 use Rattle.vf_link.specs.Statements.{statements, subjects, contents, shown, place}
 use Rattle.vf_link.specs.Least.{HasNone, IsMarkedText}
 use Rattle.vf_link.specs.Linking.{StandsTwice, Differ, IsUnmet, HasOtherSignature, agree}

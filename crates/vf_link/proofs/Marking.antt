@@ -1,5 +1,5 @@
 -- Marks put one behind the other, and the least of what is marked.
-use Rattle.std.proofs.Common.{◌≡◌, ◌≢◌, ◌⊎◌, ℕ, ◌+◌, ◌<◌, ◌≤◌, Bool, true, false, not, cond, List, [], ◌∷◌, ◌++◌, length, map, take, get_or, Option, Some, refl, sym, ap, subst, ◌∙◌, inl, inr, arith}
+use Rattle.std.proofs.Common.{◌≡◌, ◌≢◌, ◌⊎◌, ℕ, zero, suc, ◌+◌, ◌<◌, ◌≤◌, Bool, true, false, not, cond, List, [], ◌∷◌, ◌++◌, length, map, take, get_or, Option, Some, refl, sym, ap, subst, ◌∙◌, inl, inr, arith}
 use Rattle.std.specs.Prelude.{◌==◌, nat_le}
 use Rattle.std.specs.declared.cmp.Ordering.{Ordering}
 use Rattle.std.specs.declared.cmp.Ordering.TheVariants.{Less, Equal, Greater}
@@ -61,25 +61,33 @@ first_within texts firsts at is within =
 pub many_firsts : (texts : List (List ℕ)) (firsts : List ℕ) → firsts ≡ map (place texts) texts → length firsts ≡ length texts
 many_firsts texts firsts is = ap length is ∙ length-map texts (place texts)
 
-pub repeats_more : (texts : List (List ℕ)) (firsts : List ℕ) (marks new : List Bool) (at : ℕ) → firsts ≡ map (place texts) texts → at < length texts
-    → Marks at marks (IsRepeated texts) → new ≡ marks ++ not (get_or firsts at 0 == at) ∷ [] → Marks (at + 1) new (IsRepeated texts)
-repeats_more texts firsts marks new at firsts_are within h is = marks_more at marks new (not (get_or firsts at 0 == at)) (IsRepeated texts) h is
-    (λ m e. not_both (get_or firsts at 0 == at) m ((Decides-eqb (get_or firsts at 0) at).1 (first_is texts firsts at firsts_are within ∙ e)))
-    (λ ne. not_where (get_or firsts at 0 == at) (λ m. ne (sym (first_is texts firsts at firsts_are within) ∙ (Decides-eqb (get_or firsts at 0) at).0 m)))
+pub others_more : (firsts : List ℕ) (marks new : List Bool) (at : ℕ) → Marks at marks (λ k. get_or firsts k 0 ≢ k) → new ≡ marks ++ not (get_or firsts at 0 == at) ∷ []
+    → Marks (at + 1) new (λ k. get_or firsts k 0 ≢ k)
+others_more firsts marks new at h is = marks_more at marks new (not (get_or firsts at 0 == at)) (λ k. get_or firsts k 0 ≢ k) h is
+    (λ m e. not_both (get_or firsts at 0 == at) m ((Decides-eqb (get_or firsts at 0) at).1 e))
+    (λ ne. not_where (get_or firsts at 0 == at) (λ m. ne ((Decides-eqb (get_or firsts at 0) at).0 m)))
+
+-- places that are not the first of their texts are those of texts that are repeated
+pub repeats_marked : (texts : List (List ℕ)) (marks : List Bool) → Marks (length (map (place texts) texts)) marks (λ k. get_or (map (place texts) texts) k 0 ≢ k) → Marks (length texts) marks (IsRepeated texts)
+repeats_marked texts marks h = record {
+  nodes = h.nodes ∙ many;
+  is = λ k w m p. h.is k (subst (λ n. k < n) (sym many) w) m (get_or-map (place texts) texts k [] 0 w ∙ p);
+  each = λ k w p. h.each k (subst (λ n. k < n) (sym many) w) (λ e. p (sym (get_or-map (place texts) texts k [] 0 w) ∙ e));
+}
+  where
+    many : length (map (place texts) texts) ≡ length texts
+    many = length-map texts (place texts)
 
 pub contradictions_more : (subjects contents : List (List ℕ)) (firsts : List ℕ) (marks new : List Bool) (at : ℕ) (one other : List ℕ) (same : Bool)
     → firsts ≡ map (place subjects) subjects → length contents ≡ length subjects → at < length subjects
-    → one ≡ get_or contents (get_or firsts at 0) one → other ≡ get_or contents at other → (same ≡ true → one ≡ other) → (one ≡ other → same ≡ true)
+    → one ≡ get_or contents (get_or firsts at 0) [] → other ≡ get_or contents at [] → (same ≡ true → one ≡ other) → (one ≡ other → same ≡ true)
     → Marks at marks (IsContradicted subjects contents) → new ≡ marks ++ not same ∷ [] → Marks (at + 1) new (IsContradicted subjects contents)
 contradictions_more subjects contents firsts marks new at one other same firsts_are many within one_is other_is to back h is =
     let p = first_is subjects firsts at firsts_are within in
-    let inside : get_or firsts at 0 < length contents = subst (λ n. get_or firsts at 0 < n) (sym many) (first_within subjects firsts at firsts_are within) in
-    let first : one ≡ get_or contents (place subjects (get_or subjects at [])) [] =
-    get_or_read contents (get_or firsts at 0) one inside one_is [] ∙ ap (λ n. get_or contents n []) p in
-    let this : other ≡ get_or contents at [] = get_or_read contents at other (subst (λ n. at < n) (sym many) within) other_is [] in
+    let first : one ≡ get_or contents (place subjects (get_or subjects at [])) [] = one_is ∙ ap (λ n. get_or contents n []) p in
     marks_more at marks new (not same) (IsContradicted subjects contents) h is
-    (λ m e. not_both same m (back (first ∙ e ∙ sym this)))
-    (λ ne. not_where same (λ m. ne (sym first ∙ to m ∙ this)))
+    (λ m e. not_both same m (back (first ∙ e ∙ sym other_is)))
+    (λ ne. not_where same (λ m. ne (sym first ∙ to m ∙ other_is)))
 
 -- the place that was read is that where the text is mentioned first
 pub first_place : (texts : List (List ℕ)) (firsts : List ℕ) (at first : ℕ) → firsts ≡ map (place texts) texts → at < length firsts → first ≡ get_or firsts at first → first ≡ place texts (get_or texts at [])
@@ -102,15 +110,12 @@ not_is false h = refl
 -- signatures that are compared decide whether they disagree
 pub disagreement : (count : ℕ) (subjects contents : List (List ℕ)) (firsts : List ℕ) (at first : ℕ) (one other : List ℕ) (agreed : Bool)
     → firsts ≡ map (place subjects) subjects → length contents ≡ length subjects → at < length firsts → first ≡ get_or firsts at first → count ≤ at → first < count
-    → one ≡ get_or contents first one → other ≡ get_or contents at other → agreed ≡ agree one other
+    → one ≡ get_or contents first [] → other ≡ get_or contents at [] → agreed ≡ agree one other
     → (not agreed ≡ true → DisagreesWith count subjects contents at) × (DisagreesWith count subjects contents at → not agreed ≡ true)
 disagreement count subjects contents firsts at first one other agreed firsts_are many within read behind front one_is other_is agreed_is =
     let p = first_place subjects firsts at first firsts_are within read in
-    let inside : at < length contents = subst (λ n. at < n) (many_firsts subjects firsts firsts_are ∙ sym many) within in
-    let known : first < length contents = omega arith in
-    let first_one : one ≡ get_or contents (place subjects (get_or subjects at [])) [] = get_or_read contents first one known one_is [] ∙ ap (λ n. get_or contents n []) p in
-    let this : other ≡ get_or contents at [] = get_or_read contents at other inside other_is [] in
-    let is : agreed ≡ agree (get_or contents (place subjects (get_or subjects at [])) []) (get_or contents at []) = agreed_is ∙ ap (λ s. agree s other) first_one ∙ ap (λ t. agree (get_or contents (place subjects (get_or subjects at [])) []) t) this in
+    let first_one : one ≡ get_or contents (place subjects (get_or subjects at [])) [] = one_is ∙ ap (λ n. get_or contents n []) p in
+    let is : agreed ≡ agree (get_or contents (place subjects (get_or subjects at [])) []) (get_or contents at []) = agreed_is ∙ ap (λ s. agree s other) first_one ∙ ap (λ t. agree (get_or contents (place subjects (get_or subjects at [])) []) t) other_is in
     (λ h. (behind, subst (λ n. n < count) p front, sym is ∙ not_is agreed h), λ d. ap not (is ∙ d.2))
 
 -- ---- the least of what is marked
@@ -196,3 +201,49 @@ module _ (topic : Topic) (texts : List (List ℕ)) (marks : List Bool) (at : ℕ
       by : (b : Bool) → get_or marks at false ≡ b → IsLeastOf (IsMarkedText topic (take (at + 1) texts) marks) r
       by true m = subst (IsLeastOf (IsMarkedText topic (take (at + 1) texts) marks)) (sym (e ∙ ap (λ b. cond b (lesser o (Some t)) o) m ∙ ap (λ s. lesser o (Some s)) is)) (least_more o m h)
       by false m = subst (IsLeastOf (IsMarkedText topic (take (at + 1) texts) marks)) (sym (e ∙ ap (λ b. cond b (lesser o (Some t)) o) m)) (least_same o m h)
+
+-- ---- marks of the texts in front
+
+marked_within : (marks : List Bool) (k : ℕ) → get_or marks k false ≡ true → k < length marks
+marked_within [] k h = absurd cc
+marked_within (b ∷ marks) zero h = omega arith
+marked_within (b ∷ marks) (suc k) h = let rest = marked_within marks k h in omega arith
+
+in_front : (n : ℕ) (texts : List (List ℕ)) (k : ℕ) → k < length (take n texts) → (k < n) × (k < length texts)
+in_front zero texts k w = absurd (let none : ⊥ = omega arith in none)
+in_front (suc n) [] k w = absurd (let none : ⊥ = omega arith in none)
+in_front (suc n) (t ∷ texts) zero w = (omega arith, omega arith)
+in_front (suc n) (t ∷ texts) (suc k) w = let rest = in_front n texts k (omega arith) in (omega (arith, rest.0), omega (arith, rest.1))
+
+to_front : (n : ℕ) (texts : List (List ℕ)) (k : ℕ) → k < n → k < length texts → k < length (take n texts)
+to_front zero texts k w v = absurd (let none : ⊥ = omega arith in none)
+to_front (suc n) [] k w v = absurd (let none : ⊥ = omega arith in none)
+to_front (suc n) (t ∷ texts) zero w v = omega arith
+to_front (suc n) (t ∷ texts) (suc k) w v = let rest = to_front n texts k (omega arith) (omega arith) in omega arith
+
+module _ (topic : Topic) (texts : List (List ℕ)) (marks : List Bool) (n : ℕ) (few : length marks ≤ n) where
+  of_front : (x : List ℕ) → IsMarkedText topic (take n texts) marks x → IsMarkedText topic texts marks x
+  of_front x m = let w = in_front n texts m.at m.within in record {
+    at = m.at;
+    within = w.1;
+    marked = m.marked;
+    is = m.is ∙ ap (shown topic) (get_or-take n texts m.at [] w.0);
+  }
+
+  from_all : (x : List ℕ) → IsMarkedText topic texts marks x → IsMarkedText topic (take n texts) marks x
+  from_all x m =
+      let below = marked_within marks m.at m.marked in
+      let w : m.at < n = omega arith in
+      record {
+        at = m.at;
+        within = to_front n texts m.at w m.within;
+        marked = m.marked;
+        is = m.is ∙ ap (shown topic) (sym (get_or-take n texts m.at [] w));
+      }
+
+  -- where all marks are of texts in front, the least of these is the least of all
+  pub least_in_front : (o : Option (List ℕ)) → IsLeastOf (IsMarkedText topic (take n texts) marks) o → IsLeastOf (IsMarkedText topic texts marks) o
+  least_in_front o h = same_least (IsMarkedText topic (take n texts) marks) (IsMarkedText topic texts marks) o of_front from_all h
+
+  pub least_to_front : (o : Option (List ℕ)) → IsLeastOf (IsMarkedText topic texts marks) o → IsLeastOf (IsMarkedText topic (take n texts) marks) o
+  least_to_front o h = same_least (IsMarkedText topic texts marks) (IsMarkedText topic (take n texts) marks) o from_all of_front h

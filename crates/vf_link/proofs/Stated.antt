@@ -4,7 +4,7 @@ use Rattle.std.proofs.lemmas.List.{append-nil, append_assoc, map-append, take_mo
 use Rattle.std.proofs.lemmas.List.Elements.{filter_map-append}
 use Rattle.vf_manifest.specs.declared.line.Line.{Line}
 use Rattle.vf_link.specs.declared.statement.Topic.{Topic}
-use Rattle.vf_link.specs.declared.statement.Statement.{Statement}
+use Rattle.vf_link.specs.Statements.{Statement}
 use Rattle.vf_link.specs.Statements.{all_lines, statement, statements, subjects, contents}
 
 pub lines_push : (ms : List (List Line)) (m : List Line) → all_lines (ms ++ m ∷ []) ≡ all_lines ms ++ m

@@ -8,7 +8,7 @@ use Rattle.vf_manifest.specs.declared.line.Line.TheVariants as lines
 use Rattle.vf_manifest.specs.declared.line.Identity.{Identity}
 use Rattle.vf_manifest.specs.Words.{identity_text}
 use Rattle.vf_link.specs.declared.statement.Topic.TheVariants.{Bodies, Calls, Instances, Provided, Required, Structs, Uses}
-use Rattle.vf_link.specs.declared.statement.Statement.{Statement}
+use Rattle.vf_link.specs.Statements.{Statement}
 use Rattle.vf_link.specs.declared.refusal.LinkRefusal.{LinkRefusal}
 use Rattle.vf_link.specs.declared.refusal.LinkRefusal.TheVariants as refusals
 use Rattle.vf_link.specs.declared.refusal.LinkFault.{LinkFault}

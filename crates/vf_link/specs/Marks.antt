@@ -36,9 +36,9 @@ DisagreesWith count subjects contents k =
 -- mentioned first
 pub record Meets (ls : List Line) (r : Requirements) : Type 0 where
   pub count : r.provided ≡ length (statements Provided ls)
-  pub subjects : r.statements.subjects.items ≡ subjects (statements Provided ls) ++ subjects (statements Required ls)
-  pub contents : r.statements.contents.items ≡ contents (statements Provided ls) ++ contents (statements Required ls)
-  pub firsts : r.firsts.items ≡ map (place r.statements.subjects.items) r.statements.subjects.items
+  pub subjects : r.statements.subjects ≡ subjects (statements Provided ls) ++ subjects (statements Required ls)
+  pub contents : r.statements.contents ≡ contents (statements Provided ls) ++ contents (statements Required ls)
+  pub firsts : r.firsts.items ≡ map (place r.statements.subjects) r.statements.subjects
 
 -- how the lemmas of some lines call each other: an order of them, or the least that calls itself
 abbrev pub IsCalls : List Line → Calls → Type 0

@@ -8,7 +8,11 @@ use Rattle.vf_manifest.specs.Words.{identity_text}
 use Rattle.vf_manifest.specs.Lines.{two}
 use Rattle.vf_link.specs.declared.statement.Topic.{Topic}
 use Rattle.vf_link.specs.declared.statement.Topic.TheVariants.{Bodies, Calls, Instances, Provided, Required, Structs, Uses}
-use Rattle.vf_link.specs.declared.statement.Statement.{Statement}
+
+-- what a line says of what
+pub record Statement : Type 0 where
+  pub subject : List ℕ
+  pub content : List ℕ
 
 -- the lines of some manifests, one manifest after the other
 abbrev pub all_lines : List (List Line) → List Line

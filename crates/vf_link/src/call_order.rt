@@ -7,6 +7,7 @@ ghost use Rattle.vf_link.specs.Marks.{IsCalls};
 use crate::firsts::firsts;
 use crate::least::least_marked;
 use crate::statement::{Topic, stated};
+use crate::texts::Texts;
 use std::alloc::Global;
 use vf_base::{Memory, Sequence, Text};
 use vf_cycles::find_cycles;
@@ -26,7 +27,7 @@ fn in_order(
     alloc: Global,
     order: &[usize],
     firsts: &[usize],
-    texts: &[Text],
+    texts: &Texts,
 ) -> Result<Sequence<Text>, Memory>
     requires within { (u : ℕ) → Contains order.now u → u < length texts.now }
     requires firsts { length firsts.now ≡ length texts.now }
@@ -36,7 +37,7 @@ fn in_order(
     let mut ordered = Sequence::new(alloc);
     for at in order {
         if firsts[*at] == *at {
-            ordered.push(texts[*at].copy()?)?;
+            ordered.push(Text::from_bytes(alloc, texts.get(*at))?)?;
         }
     }
     Ok(ordered)
@@ -49,23 +50,17 @@ pub fn calls_of(alloc: Global, manifests: &[Manifest]) -> Result<Calls, Memory>
     let calls = stated(alloc, Topic::Calls, manifests)?;
     let count = calls.subjects.len();
     let mut names = calls.subjects;
-    let mut callees = calls.contents;
-    names.append(&mut callees)?;
-    let firsts = firsts(alloc, names.as_slice())?;
+    names.append(&calls.contents)?;
+    let firsts = firsts(alloc, &names)?;
     let (callers, callees) = firsts.split_at(count);
     let cycles = find_cycles(alloc, names.len(), callers, callees)?;
-    match least_marked(
-        alloc,
-        Topic::Calls,
-        names.as_slice(),
-        cycles.marks.as_slice(),
-    )? {
+    match least_marked(alloc, Topic::Calls, &names, cycles.marks.as_slice())? {
         Some(lemma) => Ok(Calls::Cyclic(lemma)),
         None => Ok(Calls::Ordered(in_order(
             alloc,
             cycles.order.as_slice(),
             firsts.as_slice(),
-            names.as_slice(),
+            &names,
         )?)),
     }
 }

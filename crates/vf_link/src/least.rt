@@ -1,6 +1,6 @@
 //! The least of what fails a clause.
 
-ghost use Rattle.std.specs.Prelude.{◌≡◌, ◌↔◌, IsTrue, IfOk, Some, if◌then◌else◌, length};
+ghost use Rattle.std.specs.Prelude.{◌≡◌, ◌≤◌, ◌↔◌, IsTrue, IfOk, Some, if◌then◌else◌, length};
 ghost use Rattle.std.specs.Option.{option_copied};
 ghost use Rattle.std.specs.Cmp.Lexicographic.{slice_cmp};
 ghost use Rattle.std.specs.Ordering.{nat_cmp};
@@ -8,6 +8,7 @@ ghost use Rattle.vf_link.specs.Statements.{shown};
 ghost use Rattle.vf_link.specs.Least.{IsLeastOf, IsMarkedText, lesser};
 
 use crate::statement::Topic;
+use crate::texts::Texts;
 use std::alloc::Global;
 use std::cmp::Ordering;
 use vf_base::{Memory, Text};
@@ -86,13 +87,13 @@ pub fn lesser_text(first: Option<Text>, second: Option<Text>) -> Option<Text>
 }
 
 /// The least of what is shown of the subjects that are marked.
-fn least_bytes<'a>(topic: Topic, subjects: &'a [Text], marks: &[bool]) -> Option<&'a [u8]>
-    requires { length marks.now ≡ length subjects.now }
+fn least_bytes<'a>(topic: Topic, subjects: &'a Texts, marks: &[bool]) -> Option<&'a [u8]>
+    requires { length marks.now ≤ length subjects.now }
     ensures { IsLeastOf (IsMarkedText topic subjects.now marks.now) (option_copied result) }
 {
     let mut least = None;
-    for at in 0..subjects.len() {
-        least = lesser_if(marks[at], least, shown(topic, subjects[at].as_bytes()));
+    for at in 0..marks.len() {
+        least = lesser_if(marks[at], least, shown(topic, subjects.get(at)));
     }
     least
 }
@@ -101,10 +102,10 @@ fn least_bytes<'a>(topic: Topic, subjects: &'a [Text], marks: &[bool]) -> Option
 pub fn least_marked(
     alloc: Global,
     topic: Topic,
-    subjects: &[Text],
+    subjects: &Texts,
     marks: &[bool],
 ) -> Result<Option<Text>, Memory>
-    requires { length marks.now ≡ length subjects.now }
+    requires { length marks.now ≤ length subjects.now }
     ensures { IfOk result (IsLeastOf (IsMarkedText topic subjects.now marks.now)) }
 {
     match least_bytes(topic, subjects, marks) {

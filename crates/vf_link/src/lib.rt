@@ -5,9 +5,9 @@
 //! manifests that link it tells which of them provides main, and an order of the lemmas in which each stands behind those
 //! that it calls.
 //!
-//! Lines are compared by numbers: for each text that is spoken of the place where it is mentioned first ([`firsts`]), by
-//! a map that keeps the order of insertion. The time is in proportion to the bytes of the lines, but for collisions of
-//! hashes.
+//! What the lines say of one topic is copied behind each other into one piece of memory ([`texts`]), and compared by
+//! numbers: for each text that is spoken of the place where it is mentioned first ([`firsts`]), by a map that keeps the
+//! order of insertion. The time is in proportion to the bytes of the lines, but for collisions of hashes.
 #![tactic(auto)]
 
 mod call_order;
@@ -19,6 +19,7 @@ mod refusal;
 mod repeats;
 mod requirements;
 mod statement;
+mod texts;
 
 pub use entry::Entry;
 pub use link::{Linked, link_manifests};

@@ -7,7 +7,7 @@ ghost use Rattle.vf_link.specs.Linking.{Links, IsMain, IsCallOrder, IsRefusal, I
 use crate::call_order::{Calls, calls_of};
 use crate::entry::{Entry, only_main};
 use crate::refusal::{LinkFault, LinkRefusal};
-use crate::repeats::{least_provided_twice, least_with_two_bodies, least_with_two_digests};
+use crate::repeats::{least_with_two_bodies, least_with_two_digests};
 use crate::requirements::Requirements;
 use std::alloc::Global;
 use vf_base::{Sequence, Text};
@@ -31,7 +31,8 @@ pub fn link_manifests(alloc: Global, manifests: &[Manifest]) -> Result<Linked, L
     ensures never { IfErr result (λ e. IfRefused e (λ _. Links (all_lines manifests.now) → ⊥)) }
 {
     let entry = only_main(alloc, manifests)?;
-    if let Some(identity) = least_provided_twice(alloc, manifests)? {
+    let requirements = Requirements::new(alloc, manifests)?;
+    if let Some(identity) = requirements.least_repeated(alloc)? {
         return Err(LinkFault::Refused(LinkRefusal::Duplicate { identity }));
     }
     if let Some(identity) = least_with_two_bodies(alloc, manifests)? {
@@ -40,7 +41,6 @@ pub fn link_manifests(alloc: Global, manifests: &[Manifest]) -> Result<Linked, L
     if let Some(path) = least_with_two_digests(alloc, manifests)? {
         return Err(LinkFault::Refused(LinkRefusal::HeaderDiffers { path }));
     }
-    let requirements = Requirements::new(alloc, manifests)?;
     if let Some(identity) = requirements.least_unmet(alloc)? {
         return Err(LinkFault::Refused(LinkRefusal::Unmet { identity }));
     }

@@ -1,53 +1,25 @@
-//! What is said twice, and what is said in two ways.
+//! What is said in two ways.
 
 ghost use Rattle.std.specs.Prelude.{◌≡◌, IfOk, map, length};
 ghost use Rattle.vf_link.specs.Statements.{all_lines, place, shown, statements};
 ghost use Rattle.vf_link.specs.Least.{IsLeastOf};
-ghost use Rattle.vf_link.specs.Linking.{StandsTwice, IsProvidedTwice, Differ, HasTwoBodies, HasTwoDigests};
-ghost use Rattle.vf_link.specs.Marks.{Marks, IsRepeated, IsContradicted};
+ghost use Rattle.vf_link.specs.Linking.{Differ, HasTwoBodies, HasTwoDigests};
+ghost use Rattle.vf_link.specs.Marks.{Marks, IsContradicted};
 
 use crate::firsts::firsts;
 use crate::least::{least_marked, lesser_text};
 use crate::statement::{Topic, stated};
+use crate::texts::Texts;
 use std::alloc::Global;
 use vf_base::{Memory, Text};
 use vf_manifest::Manifest;
-
-/// Marks the texts that are mentioned before.
-fn mark_repeats(alloc: Global, firsts: &[usize], texts: &[Text]) -> Result<Vec<bool>, Memory>
-    requires { firsts.now ≡ map (place texts.now) texts.now }
-    ensures { IfOk result (λ m. Marks (length texts.now) m.items (IsRepeated texts.now)) }
-{
-    let mut marks = Vec::with_capacity(alloc, texts.len())?;
-    for at in 0..texts.len() {
-        marks.push(firsts[at] != at)?;
-    }
-    Ok(marks)
-}
-
-/// The least text that stands at two places.
-fn least_repeated(alloc: Global, texts: &[Text]) -> Result<Option<Text>, Memory>
-    ensures { IfOk result (IsLeastOf (StandsTwice texts.now)) }
-{
-    let firsts = firsts(alloc, texts)?;
-    let marks = mark_repeats(alloc, firsts.as_slice(), texts)?;
-    least_marked(alloc, Topic::Provided, texts, marks.as_slice())
-}
-
-/// The least identity that is provided twice.
-pub fn least_provided_twice(alloc: Global, manifests: &[Manifest]) -> Result<Option<Text>, Memory>
-    ensures { IfOk result (IsLeastOf (IsProvidedTwice (all_lines manifests.now))) }
-{
-    let provided = stated(alloc, Topic::Provided, manifests)?;
-    least_repeated(alloc, provided.subjects.as_slice())
-}
 
 /// Marks what is not what is said first of the same subject.
 fn mark_contradictions(
     alloc: Global,
     firsts: &[usize],
-    subjects: &[Text],
-    contents: &[Text],
+    subjects: &Texts,
+    contents: &Texts,
 ) -> Result<Vec<bool>, Memory>
     requires firsts { firsts.now ≡ map (place subjects.now) subjects.now }
     requires pairs { length contents.now ≡ length subjects.now }
@@ -55,7 +27,7 @@ fn mark_contradictions(
 {
     let mut marks = Vec::with_capacity(alloc, subjects.len())?;
     for at in 0..subjects.len() {
-        marks.push(!contents[firsts[at]].same(&contents[at]))?;
+        marks.push(contents.get(firsts[at]) != contents.get(at))?;
     }
     Ok(marks)
 }
@@ -69,11 +41,9 @@ fn least_contradicted(
     ensures { IfOk result (IsLeastOf (Differ (shown topic) (statements topic (all_lines manifests.now)))) }
 {
     let stated = stated(alloc, topic, manifests)?;
-    let subjects = stated.subjects.as_slice();
-    let contents = stated.contents.as_slice();
-    let firsts = firsts(alloc, subjects)?;
-    let marks = mark_contradictions(alloc, firsts.as_slice(), subjects, contents)?;
-    least_marked(alloc, topic, subjects, marks.as_slice())
+    let firsts = firsts(alloc, &stated.subjects)?;
+    let marks = mark_contradictions(alloc, firsts.as_slice(), &stated.subjects, &stated.contents)?;
+    least_marked(alloc, topic, &stated.subjects, marks.as_slice())
 }
 
 /// The least predicate, struct or family of which a body or an instance stands in two files.

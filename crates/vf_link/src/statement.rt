@@ -3,10 +3,11 @@
 ghost use Rattle.std.specs.Prelude.{◌≡◌, ◌∷◌, ◌++◌, IfOk, OnOk, []};
 ghost use Rattle.vf_manifest.specs.Words.{identity_text};
 ghost use Rattle.vf_manifest.specs.Lines.{two};
-ghost use Rattle.vf_link.specs.Statements.{all_lines, statement, statements, subjects, contents};
+ghost use Rattle.vf_link.specs.Statements.{all_lines, statements, subjects, contents};
 
+use crate::texts::Texts;
 use std::alloc::Global;
-use vf_base::{Memory, Sequence, Text};
+use vf_base::{Memory, Text};
 use vf_manifest::{Identity, Line, Manifest};
 
 /// What lines can speak of.
@@ -28,18 +29,11 @@ pub enum Topic {
     Uses,
 }
 
-/// What a line says of what.
-#[derive(Drop)]
-pub struct Statement {
-    pub subject: Text,
-    pub content: Text,
-}
-
 /// Statements, in order: of what they speak, and what they say of it.
 #[derive(Drop)]
 pub struct Statements {
-    pub subjects: Vec<Text>,
-    pub contents: Vec<Text>,
+    pub subjects: Texts,
+    pub contents: Texts,
 }
 
 fn push_identity(out: &mut Text, identity: &Identity) -> Result<(), Memory>
@@ -69,78 +63,92 @@ fn pair_of(alloc: Global, first: &Identity, second: &Identity) -> Result<Text, M
     Ok(out)
 }
 
-/// What a line says on a topic, where it speaks of it.
-fn statement_of(alloc: Global, topic: Topic, line: &Line) -> Result<Option<Statement>, Memory>
-    ensures { IfOk result (λ s. s ≡ statement topic line.now) }
-{
-    let (subject, content) = match (topic, line) {
-        (Topic::Bodies, Line::Body { predicate, file }) => {
-            (identity_of(alloc, predicate)?, file.copy()?)
-        }
-        (Topic::Calls, Line::Calls { caller, callee }) => {
-            (identity_of(alloc, caller)?, identity_of(alloc, callee)?)
-        }
-        (
-            Topic::Instances,
-            Line::Instance {
-                family,
-                function,
-                file,
-            },
-        ) => (pair_of(alloc, family, function)?, file.copy()?),
-        (
-            Topic::Provided,
-            Line::Provides {
-                provided,
-                signature,
-            },
-        ) => (identity_of(alloc, provided)?, signature.copy()?),
-        (
-            Topic::Required,
-            Line::Requires {
-                required,
-                signature,
-            },
-        ) => (identity_of(alloc, required)?, signature.copy()?),
-        (Topic::Structs, Line::Struct { tag, file }) => (identity_of(alloc, tag)?, file.copy()?),
-        (Topic::Uses, Line::Uses { header, digest }) => (header.copy()?, digest.copy()?),
-        _ => return Ok(None),
-    };
-    Ok(Some(Statement { subject, content }))
-}
-
 impl Statements {
     /// No statements.
     pub fn new(alloc: Global) -> Statements
-        ensures subjects { result.subjects.items ≡ [] }
-        ensures contents { result.contents.items ≡ [] }
+        ensures subjects { result.subjects ≡ [] }
+        ensures contents { result.contents ≡ [] }
     {
         Statements {
-            subjects: Vec::new(alloc),
-            contents: Vec::new(alloc),
+            subjects: Texts::new(alloc),
+            contents: Texts::new(alloc),
         }
+    }
+
+    /// Adds what is said of an identity.
+    fn push_said(&mut self, subject: &Identity, content: &Text) -> Result<(), Memory>
+        ensures subjects { OnOk result (self.new.subjects ≡ self.old.subjects ++ identity_text subject.now ∷ []) }
+        ensures contents { OnOk result (self.new.contents ≡ self.old.contents ++ content.now ∷ []) }
+    {
+        self.subjects
+            .push_identity(subject.path.as_bytes(), subject.name.as_bytes())?;
+        self.contents.push(content.as_bytes())
+    }
+
+    /// Adds that a lemma calls another one.
+    fn push_call(&mut self, caller: &Identity, callee: &Identity) -> Result<(), Memory>
+        ensures subjects { OnOk result (self.new.subjects ≡ self.old.subjects ++ identity_text caller.now ∷ []) }
+        ensures contents { OnOk result (self.new.contents ≡ self.old.contents ++ identity_text callee.now ∷ []) }
+    {
+        self.subjects
+            .push_identity(caller.path.as_bytes(), caller.name.as_bytes())?;
+        self.contents
+            .push_identity(callee.path.as_bytes(), callee.name.as_bytes())
+    }
+
+    /// Adds what is said of a text.
+    fn push_told(&mut self, subject: &Text, content: &Text) -> Result<(), Memory>
+        ensures subjects { OnOk result (self.new.subjects ≡ self.old.subjects ++ subject.now ∷ []) }
+        ensures contents { OnOk result (self.new.contents ≡ self.old.contents ++ content.now ∷ []) }
+    {
+        self.subjects.push(subject.as_bytes())?;
+        self.contents.push(content.as_bytes())
     }
 
     /// Adds what a line says on a topic.
     fn push_line(&mut self, alloc: Global, topic: Topic, line: &Line) -> Result<(), Memory>
-        ensures subjects { OnOk result (self.new.subjects.items
-            ≡ self.old.subjects.items ++ subjects (statements topic (line.now ∷ []))) }
-        ensures contents { OnOk result (self.new.contents.items
-            ≡ self.old.contents.items ++ contents (statements topic (line.now ∷ []))) }
+        ensures subjects { OnOk result (self.new.subjects
+            ≡ self.old.subjects ++ subjects (statements topic (line.now ∷ []))) }
+        ensures contents { OnOk result (self.new.contents
+            ≡ self.old.contents ++ contents (statements topic (line.now ∷ []))) }
     {
-        if let Some(statement) = statement_of(alloc, topic, line)? {
-            self.subjects.push(statement.subject)?;
-            self.contents.push(statement.content)?;
+        match (topic, line) {
+            (Topic::Bodies, Line::Body { predicate, file }) => self.push_said(predicate, file),
+            (Topic::Calls, Line::Calls { caller, callee }) => self.push_call(caller, callee),
+            (
+                Topic::Instances,
+                Line::Instance {
+                    family,
+                    function,
+                    file,
+                },
+            ) => self.push_told(&pair_of(alloc, family, function)?, file),
+            (
+                Topic::Provided,
+                Line::Provides {
+                    provided,
+                    signature,
+                },
+            ) => self.push_said(provided, signature),
+            (
+                Topic::Required,
+                Line::Requires {
+                    required,
+                    signature,
+                },
+            ) => self.push_said(required, signature),
+            (Topic::Structs, Line::Struct { tag, file }) => self.push_said(tag, file),
+            (Topic::Uses, Line::Uses { header, digest }) => self.push_told(header, digest),
+            _ => Ok(()),
         }
-        Ok(())
     }
 
     /// Adds what some lines say on a topic.
     fn push_lines(&mut self, alloc: Global, topic: Topic, lines: &[Line]) -> Result<(), Memory>
-        ensures subjects { OnOk result (self.new.subjects.items
-            ≡ self.old.subjects.items ++ subjects (statements topic lines.now)) }
-        ensures contents { OnOk result (self.new.contents.items
-            ≡ self.old.contents.items ++ contents (statements topic lines.now)) }
+        ensures subjects { OnOk result (self.new.subjects
+            ≡ self.old.subjects ++ subjects (statements topic lines.now)) }
+        ensures contents { OnOk result (self.new.contents
+            ≡ self.old.contents ++ contents (statements topic lines.now)) }
     {
         for line in lines {
             self.push_line(alloc, topic, line)?;
@@ -155,10 +163,10 @@ impl Statements {
         topic: Topic,
         manifests: &[Manifest],
     ) -> Result<(), Memory>
-        ensures subjects { OnOk result (self.new.subjects.items
-            ≡ self.old.subjects.items ++ subjects (statements topic (all_lines manifests.now))) }
-        ensures contents { OnOk result (self.new.contents.items
-            ≡ self.old.contents.items ++ contents (statements topic (all_lines manifests.now))) }
+        ensures subjects { OnOk result (self.new.subjects
+            ≡ self.old.subjects ++ subjects (statements topic (all_lines manifests.now))) }
+        ensures contents { OnOk result (self.new.contents
+            ≡ self.old.contents ++ contents (statements topic (all_lines manifests.now))) }
     {
         for manifest in manifests {
             self.push_lines(alloc, topic, manifest.as_slice())?;
@@ -169,8 +177,8 @@ impl Statements {
 
 /// What the lines of some manifests say on a topic.
 pub fn stated(alloc: Global, topic: Topic, manifests: &[Manifest]) -> Result<Statements, Memory>
-    ensures subjects { IfOk result (λ s. s.subjects.items ≡ subjects (statements topic (all_lines manifests.now))) }
-    ensures contents { IfOk result (λ s. s.contents.items ≡ contents (statements topic (all_lines manifests.now))) }
+    ensures subjects { IfOk result (λ s. s.subjects ≡ subjects (statements topic (all_lines manifests.now))) }
+    ensures contents { IfOk result (λ s. s.contents ≡ contents (statements topic (all_lines manifests.now))) }
 {
     let mut statements = Statements::new(alloc);
     statements.push_all(alloc, topic, manifests)?;

@@ -1,8 +1,7 @@
-use Rattle.std.proofs.Common.{◌≡◌, ℕ, List, [], cond, get_or, take, Bor, Some, None, sym, ap, ◌∙◌}
+use Rattle.std.proofs.Common.{◌≡◌, ℕ, List, [], cond, get_or, take, Bor, Some, None, sym, ap, subst, ◌<◌, ◌∙◌}
 use Rattle.std.specs.List.{position_from}
 use Rattle.std.specs.HashMap.{get_by}
 use Rattle.std.specs.Str.{bytes_eq}
-use Rattle.std.proofs.lemmas.List.{get_or_read}
 use Rattle.std.proofs.lemmas.Map.Text.{hash_map_updates_str}
 use Rattle.vf_link.proofs.Lists.{same_items}
 use Rattle.vf_link.proofs.Finding.{place_found, place_new, one_more, look_up_same, look_up_more, same_look_up}
@@ -13,10 +12,10 @@ pub loop-at-preserved : goal.loop-at-preserved
 loop-at-preserved c =
     let texts = c.args.texts.now in
     let at = c.loop-at.at in
-    let within = c.loop-at-test.true in
+    let within = subst (λ n. c.loop-at.at < n) c.len-at-end.ensures c.loop-at-test.true in
     let inv = c.loop-at.invariant in
-    let key = c.as_bytes-text.result.now in
-    let text : key ≡ get_or texts at [] = c.as_bytes-text.ensures ∙ get_or_read texts at c.index-texts-at.result within c.index-texts-at.is [] in
+    let key = c.get-text.result.now in
+    let text : key ≡ get_or texts at [] = c.get-text.ensures in
     let looked_up : c.copied.result ≡ position_from (bytes_eq (get_or texts at [])) 0 (take at texts) =
     c.copied.ensures ∙ c.get.ensures.value ∙ inv.places key ∙ ap (λ t. position_from (bytes_eq t) 0 (take at texts)) text in
     elim c.match-copied.branch [

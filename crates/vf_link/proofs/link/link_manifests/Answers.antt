@@ -12,34 +12,43 @@ pub returns-in_err-entry-clause-never : goal.returns-in_err-entry-clause-never
 returns-in_err-entry-clause-never c = if_never {T = Linked} (all_lines c.args.manifests.now) c.from_residual.result (search rules)
 
 -- an identity is provided twice
-pub returns-in-Some-clause-never : goal.returns-in-Some-clause-never
-returns-in-Some-clause-never c =
+pub returns-in-Some-clause-refused : goal.returns-in-Some-clause-refused
+returns-in-Some-clause-refused c =
     let ls = all_lines c.args.manifests.now in
-    let least : IsLeast (IsProvidedTwice ls) c.in-Some.identity = subst (IsLeastOf (IsProvidedTwice ls)) c.in-Some.is c.in_ok-identity.ensures in
-    refused_no_link ls (refusals.Duplicate c.in-Some.identity) (c.in_ok-entry.ensures.one, least)
+    let least : IsLeast (IsProvidedTwice ls) c.in-Some.identity = subst (IsLeastOf (IsProvidedTwice ls)) c.in-Some.is (c.in_ok-identity.ensures ls c.in_ok-requirements.ensures) in
+    (c.in_ok-entry.ensures.one, least)
+
+pub returns-in-Some-clause-never : goal.returns-in-Some-clause-never
+returns-in-Some-clause-never c = refused_no_link (all_lines c.args.manifests.now) (refusals.Duplicate c.in-Some.identity) (returns-in-Some-clause-refused c)
 
 -- a body stands in two files
-pub returns-in-Some-2-clause-never : goal.returns-in-Some-2-clause-never
-returns-in-Some-2-clause-never c =
+pub returns-in-Some-2-clause-refused : goal.returns-in-Some-2-clause-refused
+returns-in-Some-2-clause-refused c =
     let ls = all_lines c.args.manifests.now in
-    let once : HasNone (IsProvidedTwice ls) = subst (IsLeastOf (IsProvidedTwice ls)) c.in_default.is c.in_ok-identity.ensures in
+    let once : HasNone (IsProvidedTwice ls) = subst (IsLeastOf (IsProvidedTwice ls)) c.in_default.is (c.in_ok-identity.ensures ls c.in_ok-requirements.ensures) in
     let least : IsLeast (HasTwoBodies ls) c.in-Some-2.identity = subst (IsLeastOf (HasTwoBodies ls)) c.in-Some-2.is c.in_ok-identity-2.ensures in
-    refused_no_link ls (refusals.TwoBodies c.in-Some-2.identity) ((c.in_ok-entry.ensures.one, once), least)
+    ((c.in_ok-entry.ensures.one, once), least)
+
+pub returns-in-Some-2-clause-never : goal.returns-in-Some-2-clause-never
+returns-in-Some-2-clause-never c = refused_no_link (all_lines c.args.manifests.now) (refusals.TwoBodies c.in-Some-2.identity) (returns-in-Some-2-clause-refused c)
 
 -- a header has two digests
-pub returns-in-Some-3-clause-never : goal.returns-in-Some-3-clause-never
-returns-in-Some-3-clause-never c =
+pub returns-in-Some-3-clause-refused : goal.returns-in-Some-3-clause-refused
+returns-in-Some-3-clause-refused c =
     let ls = all_lines c.args.manifests.now in
-    let once : HasNone (IsProvidedTwice ls) = subst (IsLeastOf (IsProvidedTwice ls)) c.in_default.is c.in_ok-identity.ensures in
+    let once : HasNone (IsProvidedTwice ls) = subst (IsLeastOf (IsProvidedTwice ls)) c.in_default.is (c.in_ok-identity.ensures ls c.in_ok-requirements.ensures) in
     let bodies : HasNone (HasTwoBodies ls) = subst (IsLeastOf (HasTwoBodies ls)) c.in_default-2.is c.in_ok-identity-2.ensures in
     let least : IsLeast (HasTwoDigests ls) c.in-Some-3.path = subst (IsLeastOf (HasTwoDigests ls)) c.in-Some-3.is c.in_ok-path.ensures in
-    refused_no_link ls (refusals.HeaderDiffers c.in-Some-3.path) (((c.in_ok-entry.ensures.one, once), bodies), least)
+    (((c.in_ok-entry.ensures.one, once), bodies), least)
+
+pub returns-in-Some-3-clause-never : goal.returns-in-Some-3-clause-never
+returns-in-Some-3-clause-never c = refused_no_link (all_lines c.args.manifests.now) (refusals.HeaderDiffers c.in-Some-3.path) (returns-in-Some-3-clause-refused c)
 
 -- an identity is not provided
 pub returns-in-Some-4-clause-refused : goal.returns-in-Some-4-clause-refused
 returns-in-Some-4-clause-refused c =
     let ls = all_lines c.args.manifests.now in
-    let once : HasNone (IsProvidedTwice ls) = subst (IsLeastOf (IsProvidedTwice ls)) c.in_default.is c.in_ok-identity.ensures in
+    let once : HasNone (IsProvidedTwice ls) = subst (IsLeastOf (IsProvidedTwice ls)) c.in_default.is (c.in_ok-identity.ensures ls c.in_ok-requirements.ensures) in
     let bodies : HasNone (HasTwoBodies ls) = subst (IsLeastOf (HasTwoBodies ls)) c.in_default-2.is c.in_ok-identity-2.ensures in
     let digests : HasNone (HasTwoDigests ls) = subst (IsLeastOf (HasTwoDigests ls)) c.in_default-3.is c.in_ok-path.ensures in
     let least : IsLeast (IsUnmet ls) c.in-Some-4.identity = subst (IsLeastOf (IsUnmet ls)) c.in-Some-4.is (c.in_ok-identity-3.ensures ls c.in_ok-requirements.ensures) in
@@ -52,7 +61,7 @@ returns-in-Some-4-clause-never c = refused_no_link (all_lines c.args.manifests.n
 pub returns-in-Some-5-clause-refused : goal.returns-in-Some-5-clause-refused
 returns-in-Some-5-clause-refused c =
     let ls = all_lines c.args.manifests.now in
-    let once : HasNone (IsProvidedTwice ls) = subst (IsLeastOf (IsProvidedTwice ls)) c.in_default.is c.in_ok-identity.ensures in
+    let once : HasNone (IsProvidedTwice ls) = subst (IsLeastOf (IsProvidedTwice ls)) c.in_default.is (c.in_ok-identity.ensures ls c.in_ok-requirements.ensures) in
     let bodies : HasNone (HasTwoBodies ls) = subst (IsLeastOf (HasTwoBodies ls)) c.in_default-2.is c.in_ok-identity-2.ensures in
     let digests : HasNone (HasTwoDigests ls) = subst (IsLeastOf (HasTwoDigests ls)) c.in_default-3.is c.in_ok-path.ensures in
     let met : HasNone (IsUnmet ls) = subst (IsLeastOf (IsUnmet ls)) c.in_default-4.is (c.in_ok-identity-3.ensures ls c.in_ok-requirements.ensures) in
@@ -66,7 +75,7 @@ returns-in-Some-5-clause-never c = refused_no_link (all_lines c.args.manifests.n
 pub returns-in-Ordered-clause-links : goal.returns-in-Ordered-clause-links
 returns-in-Ordered-clause-links c =
     let ls = all_lines c.args.manifests.now in
-    let once : HasNone (IsProvidedTwice ls) = subst (IsLeastOf (IsProvidedTwice ls)) c.in_default.is c.in_ok-identity.ensures in
+    let once : HasNone (IsProvidedTwice ls) = subst (IsLeastOf (IsProvidedTwice ls)) c.in_default.is (c.in_ok-identity.ensures ls c.in_ok-requirements.ensures) in
     let bodies : HasNone (HasTwoBodies ls) = subst (IsLeastOf (HasTwoBodies ls)) c.in_default-2.is c.in_ok-identity-2.ensures in
     let digests : HasNone (HasTwoDigests ls) = subst (IsLeastOf (HasTwoDigests ls)) c.in_default-3.is c.in_ok-path.ensures in
     let met : HasNone (IsUnmet ls) = subst (IsLeastOf (IsUnmet ls)) c.in_default-4.is (c.in_ok-identity-3.ensures ls c.in_ok-requirements.ensures) in
@@ -78,7 +87,7 @@ returns-in-Ordered-clause-links c =
 pub returns-in-Cyclic-clause-refused : goal.returns-in-Cyclic-clause-refused
 returns-in-Cyclic-clause-refused c =
     let ls = all_lines c.args.manifests.now in
-    let once : HasNone (IsProvidedTwice ls) = subst (IsLeastOf (IsProvidedTwice ls)) c.in_default.is c.in_ok-identity.ensures in
+    let once : HasNone (IsProvidedTwice ls) = subst (IsLeastOf (IsProvidedTwice ls)) c.in_default.is (c.in_ok-identity.ensures ls c.in_ok-requirements.ensures) in
     let bodies : HasNone (HasTwoBodies ls) = subst (IsLeastOf (HasTwoBodies ls)) c.in_default-2.is c.in_ok-identity-2.ensures in
     let digests : HasNone (HasTwoDigests ls) = subst (IsLeastOf (HasTwoDigests ls)) c.in_default-3.is c.in_ok-path.ensures in
     let met : HasNone (IsUnmet ls) = subst (IsLeastOf (IsUnmet ls)) c.in_default-4.is (c.in_ok-identity-3.ensures ls c.in_ok-requirements.ensures) in

@@ -1,4 +1,4 @@
-use Rattle.std.proofs.Common.{◌≡◌, IfOk, length, sym, subst, ◌∙◌}
+use Rattle.std.proofs.Common.{◌≡◌, IfOk, length, sym, subst}
 use Rattle.vf_link.specs.Statements.{all_lines, statements, subjects, contents, shown}
 use Rattle.vf_link.specs.Least.{IsLeastOf, IsMarkedText}
 use Rattle.vf_link.specs.Linking.{Differ}
@@ -11,10 +11,10 @@ pub returns : goal.returns
 returns c =
     let topic = c.args.topic in
     let said = statements topic (all_lines c.args.manifests.now) in
-    let s = c.as_slice-subjects.result.now in
-    let t = c.as_slice-contents.result.now in
-    let subjects_are : s ≡ subjects said = c.as_slice-subjects.ensures.value ∙ c.in_ok-stated.ensures.subjects in
-    let contents_are : t ≡ contents said = c.as_slice-contents.ensures.value ∙ c.in_ok-stated.ensures.contents in
+    let s = c.in_ok-stated.stated.subjects in
+    let t = c.in_ok-stated.stated.contents in
+    let subjects_are : s ≡ subjects said = c.in_ok-stated.ensures.subjects in
+    let contents_are : t ≡ contents said = c.in_ok-stated.ensures.contents in
     let marks = c.as_slice-2.result.now in
     let marked : Marks (length s) marks (IsContradicted s t) = subst (λ l. Marks (length s) l (IsContradicted s t)) (sym c.as_slice-2.ensures.value) c.in_ok-marks.ensures in
     let m : Marks (length (subjects said)) marks (IsContradicted (subjects said) (contents said)) =

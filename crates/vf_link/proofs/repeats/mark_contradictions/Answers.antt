@@ -1,18 +1,19 @@
-use Rattle.std.proofs.Common.{◌<◌, get_or, sym, subst, arith}
+use Rattle.std.proofs.Common.{◌<◌, [], ◌∷◌, ◌++◌, get_or, length, sym, ap, subst, ◌∙◌}
+use Rattle.std.specs.Str.{bytes_eq}
+use Rattle.std.proofs.lemmas.Slice.Eq.{bytes_eq-Decides}
 use Rattle.vf_link.proofs.Marking.{first_within, contradictions_more}
 use Rattle.vf_link.proofs.repeats.mark_contradictions.Goals as goal
 
-pub bounds-contents-firsts : goal.bounds-contents-firsts
-bounds-contents-firsts c =
-    subst (λ n. get_or c.args.firsts.now c.loop-at.at 0 < n) (sym c.requires.pairs) (first_within c.args.subjects.now c.args.firsts.now c.loop-at.at c.requires.firsts c.loop-at-test.true)
-
-pub offset_bounds-contents-firsts : goal.offset_bounds-contents-firsts
-offset_bounds-contents-firsts c =
-    let within = first_within c.args.subjects.now c.args.firsts.now c.loop-at.at c.requires.firsts c.loop-at-test.true in
-    let many = c.requires.pairs in
-    omega arith
+pub get-requires : goal.get-requires
+get-requires c =
+    let within : c.loop-at.at < length c.args.subjects.now = subst (λ n. c.loop-at.at < n) c.len-at-end.ensures c.loop-at-test.true in
+    subst (λ n. get_or c.args.firsts.now c.loop-at.at 0 < n) (sym c.requires.pairs) (first_within c.args.subjects.now c.args.firsts.now c.loop-at.at c.requires.firsts within)
 
 pub loop-at-preserved : goal.loop-at-preserved
 loop-at-preserved c =
-    contradictions_more c.args.subjects.now c.args.contents.now c.args.firsts.now c.loop-at.marks.items c.push.new.self.items c.loop-at.at c.index-contents-firsts.result c.index-contents-at.result c.same.result
-    c.requires.firsts c.requires.pairs c.loop-at-test.true c.index-contents-firsts.is c.index-contents-at.is c.same.ensures.0 c.same.ensures.1 c.loop-at.invariant c.in_ok-push.ensures.items
+    let one = c.get.result.now in
+    let other = c.get-in-loop-at.result.now in
+    let within : c.loop-at.at < length c.args.subjects.now = subst (λ n. c.loop-at.at < n) c.len-at-end.ensures c.loop-at-test.true in
+    contradictions_more c.args.subjects.now c.args.contents.now c.args.firsts.now c.loop-at.marks.items c.push.new.self.items c.loop-at.at one other (bytes_eq one other)
+    c.requires.firsts c.requires.pairs within c.get.ensures c.get-in-loop-at.ensures (bytes_eq-Decides one other).0 (bytes_eq-Decides one other).1 c.loop-at.invariant
+    (c.in_ok-push.ensures.items ∙ ap (λ b. c.loop-at.marks.items ++ b ∷ []) c.ne.ensures)

@@ -12,8 +12,8 @@ loop-manifest-preserved c =
     let e = c.in_ok-push_lines.ensures in
     let lines = c.as_slice.ensures in
     record {
-      subjects = subjects_manifest c.args.topic was.subjects.items old.subjects.items new.subjects.items c.args.manifests.now c.loop-manifest.manifest-index m c.loop-manifest-test.true c.manifest-item.is c.loop-manifest.invariant.subjects
-          (e.subjects ∙ ap (λ ls. old.subjects.items ++ subjects (statements c.args.topic ls)) lines);
-      contents = contents_manifest c.args.topic was.contents.items old.contents.items new.contents.items c.args.manifests.now c.loop-manifest.manifest-index m c.loop-manifest-test.true c.manifest-item.is c.loop-manifest.invariant.contents
-          (e.contents ∙ ap (λ ls. old.contents.items ++ contents (statements c.args.topic ls)) lines);
+      subjects = subjects_manifest c.args.topic was.subjects old.subjects new.subjects c.args.manifests.now c.loop-manifest.manifest-index m c.loop-manifest-test.true c.manifest-item.is c.loop-manifest.invariant.subjects
+          (e.subjects ∙ ap (λ ls. old.subjects ++ subjects (statements c.args.topic ls)) lines);
+      contents = contents_manifest c.args.topic was.contents old.contents new.contents c.args.manifests.now c.loop-manifest.manifest-index m c.loop-manifest-test.true c.manifest-item.is c.loop-manifest.invariant.contents
+          (e.contents ∙ ap (λ ls. old.contents ++ contents (statements c.args.topic ls)) lines);
     }

@@ -4,6 +4,6 @@ use Rattle.vf_link.proofs.statement.Statements.push_all.Given as goal
 
 abbrev pub invariant-loop-manifest : goal.invariant-loop-manifest
 invariant-loop-manifest l = record {
-  subjects : l.self.subjects.items ≡ l.fn.self.subjects.items ++ subjects (statements l.topic (all_lines (take l.manifest-index l.manifests)));
-  contents : l.self.contents.items ≡ l.fn.self.contents.items ++ contents (statements l.topic (all_lines (take l.manifest-index l.manifests)));
+  subjects : l.self.subjects ≡ l.fn.self.subjects ++ subjects (statements l.topic (all_lines (take l.manifest-index l.manifests)));
+  contents : l.self.contents ≡ l.fn.self.contents ++ contents (statements l.topic (all_lines (take l.manifest-index l.manifests)));
 }

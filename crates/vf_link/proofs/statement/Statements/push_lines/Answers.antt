@@ -9,6 +9,6 @@ loop-line-preserved c =
     let l = c.line-item.result in
     let e = c.in_ok-push_line.ensures in
     record {
-      subjects = subjects_line c.args.topic was.subjects.items old.subjects.items new.subjects.items c.args.lines.now c.loop-line.line-index l c.loop-line-test.true c.line-item.is c.loop-line.invariant.subjects e.subjects;
-      contents = contents_line c.args.topic was.contents.items old.contents.items new.contents.items c.args.lines.now c.loop-line.line-index l c.loop-line-test.true c.line-item.is c.loop-line.invariant.contents e.contents;
+      subjects = subjects_line c.args.topic was.subjects old.subjects new.subjects c.args.lines.now c.loop-line.line-index l c.loop-line-test.true c.line-item.is c.loop-line.invariant.subjects e.subjects;
+      contents = contents_line c.args.topic was.contents old.contents new.contents c.args.lines.now c.loop-line.line-index l c.loop-line-test.true c.line-item.is c.loop-line.invariant.contents e.contents;
     }

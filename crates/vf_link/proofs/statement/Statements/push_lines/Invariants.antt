@@ -4,6 +4,6 @@ use Rattle.vf_link.proofs.statement.Statements.push_lines.Given as goal
 
 abbrev pub invariant-loop-line : goal.invariant-loop-line
 invariant-loop-line l = record {
-  subjects : l.self.subjects.items ≡ l.fn.self.subjects.items ++ subjects (statements l.topic (take l.line-index l.lines));
-  contents : l.self.contents.items ≡ l.fn.self.contents.items ++ contents (statements l.topic (take l.line-index l.lines));
+  subjects : l.self.subjects ≡ l.fn.self.subjects ++ subjects (statements l.topic (take l.line-index l.lines));
+  contents : l.self.contents ≡ l.fn.self.contents ++ contents (statements l.topic (take l.line-index l.lines));
 }
