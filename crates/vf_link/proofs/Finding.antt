@@ -1,9 +1,9 @@
 -- Places that are found while texts come one by one.
-use Rattle.std.proofs.Common.{◌≡◌, ℕ, ◌+◌, ◌<◌, cond, not, Bool, true, false, List, [], ◌∷◌, ◌++◌, length, map, take, drop, get_or, Bor, Option, Some, None, refl, sym, ap, subst, ◌∙◌, arith}
+use Rattle.std.proofs.Common.{◌≡◌, ℕ, zero, suc, ◌+◌, ◌<◌, cond, not, Bool, true, false, List, [], ◌∷◌, ◌++◌, length, map, take, drop, get_or, Bor, Option, Some, None, refl, sym, ap, subst, ◌∙◌, arith}
 use Rattle.std.specs.List.{position_from, position_or_len}
 use Rattle.std.specs.Str.{bytes_eq}
 use Rattle.std.specs.HashMap.{HashMap, get_by}
-use Rattle.std.proofs.lemmas.List.{append_assoc, take_more, take-append-drop, drop_more, length-take-le, map_push}
+use Rattle.std.proofs.lemmas.List.{append_assoc, take_more, take-append-drop, drop_more, length-map, length-take-le, get_or-take, map_push}
 use Rattle.std.proofs.lemmas.Slice.Eq.{bytes_eq-Decides}
 use Rattle.vf_link.specs.Statements.{place}
 
@@ -41,7 +41,16 @@ missed_next p (y ∷ ys) x i h =
 pub same_look_up : {S : Type 0} (m n : HashMap (Bor (List ℕ)) ℕ S) → m ≡ n → (q : List ℕ) → get_by (λ (k : Bor (List ℕ)). bytes_eq q k.now) m ≡ get_by (λ (k : Bor (List ℕ)). bytes_eq q k.now) n
 same_look_up {S = S} m n e q = ap (λ (o : HashMap (Bor (List ℕ)) ℕ S). get_by (λ (k : Bor (List ℕ)). bytes_eq q k.now) o) e
 
-same_bytes : (s t : List ℕ) (b : Bool) → bytes_eq s t ≡ b → (b ≡ true → s ≡ t)
+-- what was put in the place of a value, and then back, is as it was
+pub put_back : (text q : List ℕ) (at first : ℕ) (o : Option ℕ) → (bytes_eq text q ≡ true → o ≡ Some first)
+    → cond (bytes_eq text q) (Some first) (cond (bytes_eq text q) (Some at) o) ≡ o
+put_back text q at first o was = by (bytes_eq text q) refl
+  where
+    by : (b : Bool) → bytes_eq text q ≡ b → cond (bytes_eq text q) (Some first) (cond (bytes_eq text q) (Some at) o) ≡ o
+    by true e = ap (λ b. cond b (Some first) (cond b (Some at) o)) e ∙ sym (was e)
+    by false e = ap (λ b. cond b (Some first) (cond b (Some at) o)) e
+
+pub same_bytes : (s t : List ℕ) (b : Bool) → bytes_eq s t ≡ b → (b ≡ true → s ≡ t)
 same_bytes s t b e h = (bytes_eq-Decides s t).0 (e ∙ h)
 
 module _ (texts : List (List ℕ)) (at : ℕ) (within : at < length texts) where
@@ -74,6 +83,30 @@ module _ (texts : List (List ℕ)) (at : ℕ) (within : at < length texts) where
       let is = found_place p texts 0 (0 + length (take at texts)) whole in
       let long = length-take-le at texts (omega arith) in
       omega arith
+
+  -- where a text stands that is mentioned there first, it is found before it is mentioned again
+  pub found_before : (f : ℕ) → f < at → place texts (get_or texts f []) ≡ f → get_or texts f [] ≡ get_or texts at [] → position_from (bytes_eq (get_or texts at [])) 0 (take at texts) ≡ Some f
+  found_before f h first same = by (position_from (bytes_eq (get_or texts at [])) 0 (take at texts)) refl
+    where
+      is : place texts (get_or texts at []) ≡ f
+      is = ap (place texts) (sym same) ∙ first
+
+      by : (o : Option ℕ) → position_from (bytes_eq (get_or texts at [])) 0 (take at texts) ≡ o → position_from (bytes_eq (get_or texts at [])) 0 (take at texts) ≡ Some f
+      by (Some n) e = e ∙ ap Some (sym (place_found n e) ∙ is)
+      by None e = absurd (let new = place_new e in let old = is in omega arith)
+
+  -- the places of the texts so far
+  pub places_so_far : (fs : List ℕ) → fs ≡ map (place texts) (take at texts) → length fs ≡ at
+  places_so_far fs h = ap length h ∙ length-map (take at texts) (place texts) ∙ length-take-le at texts (omega arith)
+
+  pub place_so_far : (fs : List ℕ) (f : ℕ) → fs ≡ map (place texts) (take at texts) → f < at → get_or fs f 0 ≡ place texts (get_or texts f [])
+  place_so_far fs f h before =
+      ap (λ l. get_or l f 0) h ∙ mapped f (take at texts) (let long = length-take-le at texts (omega arith) in omega arith) ∙ ap (place texts) (get_or-take at texts f [] before)
+    where
+      mapped : (k : ℕ) (xs : List (List ℕ)) → k < length xs → get_or (map (place texts) xs) k 0 ≡ place texts (get_or xs k [])
+      mapped k [] few = absurd (omega arith)
+      mapped zero (x ∷ xs) few = refl
+      mapped (suc k) (x ∷ xs) few = mapped k xs (omega arith)
 
   pub one_more : (fs : List ℕ) (f : ℕ) → fs ≡ map (place texts) (take at texts) → place texts (get_or texts at []) ≡ f → fs ++ f ∷ [] ≡ map (place texts) (take (at + 1) texts)
   one_more fs f h is =

@@ -2,7 +2,6 @@ pub mod Lists
 pub mod Finding
 pub mod Places
 pub mod Stated
-pub mod Spans
 pub mod Leasts
 pub mod Marking
 pub mod Mains

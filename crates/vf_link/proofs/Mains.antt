@@ -4,7 +4,7 @@ use Rattle.std.specs.Prelude.{count_by}
 use Rattle.std.proofs.lemmas.List.{take_more}
 use Rattle.std.proofs.lemmas.List.Sums.{count_by_more_yes, count_by_more_no, sum_by-append}
 use Rattle.vf_manifest.specs.declared.line.Line.{Line}
-use Rattle.vf_manifest.specs.declared.line.Identity.{Identity}
+use Rattle.vf_manifest.specs.Identities.{Identity}
 use Rattle.vf_manifest.specs.Words.{identity_text}
 use Rattle.vf_link.specs.Statements.{all_lines, provides_main}
 use Rattle.vf_link.specs.Linking.{IsMain, ProvidesMain, mains}

@@ -5,7 +5,7 @@ use Rattle.vf_cycles.specs.Reaching.{Reaches}
 use Rattle.vf_cycles.specs.Graphs.{EachOnce}
 use Rattle.vf_manifest.specs.declared.line.Line.{Line}
 use Rattle.vf_manifest.specs.declared.line.Line.TheVariants as lines
-use Rattle.vf_manifest.specs.declared.line.Identity.{Identity}
+use Rattle.vf_manifest.specs.Identities.{Identity}
 use Rattle.vf_manifest.specs.Words.{identity_text}
 use Rattle.vf_link.specs.declared.statement.Topic.TheVariants.{Bodies, Calls, Instances, Provided, Required, Structs, Uses}
 use Rattle.vf_link.specs.Statements.{Statement}

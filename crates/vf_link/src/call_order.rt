@@ -27,7 +27,7 @@ fn in_order(
     alloc: Global,
     order: &[usize],
     firsts: &[usize],
-    texts: &Texts,
+    texts: &Texts<'_>,
 ) -> Result<Sequence<Text>, Memory>
     requires within { (u : ℕ) → Contains order.now u → u < length texts.now }
     requires firsts { length firsts.now ≡ length texts.now }
@@ -50,8 +50,9 @@ pub fn calls_of(alloc: Global, manifests: &[Manifest]) -> Result<Calls, Memory>
     let calls = stated(alloc, Topic::Calls, manifests)?;
     let count = calls.subjects.len();
     let mut names = calls.subjects;
-    names.append(&calls.contents)?;
-    let firsts = firsts(alloc, &names)?;
+    let mut called = calls.contents;
+    names.append(&mut called)?;
+    let firsts = firsts(alloc, &names, count)?;
     let (callers, callees) = firsts.split_at(count);
     let cycles = find_cycles(alloc, names.len(), callers, callees)?;
     match least_marked(alloc, Topic::Calls, &names, cycles.marks.as_slice())? {

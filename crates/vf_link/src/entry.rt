@@ -25,7 +25,7 @@ fn main_of(line: &Line) -> Option<&Identity>
     ensures is { is_some result ≡ provides_main line.now }
 {
     match line {
-        Line::Provides { provided, .. } if provided.name.has_bytes(b"main") => Some(provided),
+        Line::Provides { provided, .. } if provided.name() == b"main".as_slice() => Some(provided),
         _ => None,
     }
 }

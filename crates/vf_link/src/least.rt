@@ -87,7 +87,7 @@ pub fn lesser_text(first: Option<Text>, second: Option<Text>) -> Option<Text>
 }
 
 /// The least of what is shown of the subjects that are marked.
-fn least_bytes<'a>(topic: Topic, subjects: &'a Texts, marks: &[bool]) -> Option<&'a [u8]>
+fn least_bytes<'a>(topic: Topic, subjects: &'a Texts<'_>, marks: &[bool]) -> Option<&'a [u8]>
     requires { length marks.now ≤ length subjects.now }
     ensures { IsLeastOf (IsMarkedText topic subjects.now marks.now) (option_copied result) }
 {
@@ -102,7 +102,7 @@ fn least_bytes<'a>(topic: Topic, subjects: &'a Texts, marks: &[bool]) -> Option<
 pub fn least_marked(
     alloc: Global,
     topic: Topic,
-    subjects: &Texts,
+    subjects: &Texts<'_>,
     marks: &[bool],
 ) -> Result<Option<Text>, Memory>
     requires { length marks.now ≤ length subjects.now }

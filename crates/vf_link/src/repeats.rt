@@ -18,8 +18,8 @@ use vf_manifest::Manifest;
 fn mark_contradictions(
     alloc: Global,
     firsts: &[usize],
-    subjects: &Texts,
-    contents: &Texts,
+    subjects: &Texts<'_>,
+    contents: &Texts<'_>,
 ) -> Result<Vec<bool>, Memory>
     requires firsts { firsts.now ≡ map (place subjects.now) subjects.now }
     requires pairs { length contents.now ≡ length subjects.now }
@@ -41,7 +41,7 @@ fn least_contradicted(
     ensures { IfOk result (IsLeastOf (Differ (shown topic) (statements topic (all_lines manifests.now)))) }
 {
     let stated = stated(alloc, topic, manifests)?;
-    let firsts = firsts(alloc, &stated.subjects)?;
+    let firsts = firsts(alloc, &stated.subjects, stated.subjects.len())?;
     let marks = mark_contradictions(alloc, firsts.as_slice(), &stated.subjects, &stated.contents)?;
     least_marked(alloc, topic, &stated.subjects, marks.as_slice())
 }

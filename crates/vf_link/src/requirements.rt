@@ -16,8 +16,8 @@ use vf_manifest::Manifest;
 
 /// What is provided, and behind it what is required, each with its signature.
 #[derive(Drop)]
-pub struct Requirements {
-    statements: Statements,
+pub struct Requirements<'a> {
+    statements: Statements<'a>,
     /// How many identities are provided.
     provided: usize,
     /// For each identity the place where it is mentioned first.
@@ -42,15 +42,15 @@ fn mark_repeats(alloc: Global, firsts: &[usize]) -> Result<Vec<bool>, Memory>
     Ok(marks)
 }
 
-impl Requirements {
+impl<'a> Requirements<'a> {
     /// What some manifests provide and require.
-    pub fn new(alloc: Global, manifests: &[Manifest]) -> Result<Requirements, Memory>
+    pub fn new(alloc: Global, manifests: &'a [Manifest]) -> Result<Requirements<'a>, Memory>
         ensures { IfOk result (λ r. Meets (all_lines manifests.now) r) }
     {
         let mut statements = stated(alloc, Topic::Provided, manifests)?;
         let provided = statements.subjects.len();
         statements.push_all(alloc, Topic::Required, manifests)?;
-        let firsts = firsts(alloc, &statements.subjects)?;
+        let firsts = firsts(alloc, &statements.subjects, provided)?;
         Ok(Requirements {
             statements,
             provided,

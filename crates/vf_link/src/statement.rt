@@ -5,7 +5,7 @@ ghost use Rattle.vf_manifest.specs.Words.{identity_text};
 ghost use Rattle.vf_manifest.specs.Lines.{two};
 ghost use Rattle.vf_link.specs.Statements.{all_lines, statements, subjects, contents};
 
-use crate::texts::Texts;
+use crate::texts::{Piece, Texts};
 use std::alloc::Global;
 use vf_base::{Memory, Text};
 use vf_manifest::{Identity, Line, Manifest};
@@ -31,26 +31,16 @@ pub enum Topic {
 
 /// Statements, in order: of what they speak, and what they say of it.
 #[derive(Drop)]
-pub struct Statements {
-    pub subjects: Texts,
-    pub contents: Texts,
-}
-
-fn push_identity(out: &mut Text, identity: &Identity) -> Result<(), Memory>
-    ensures { OnOk result (out.new ≡ out.old ++ identity_text identity.now) }
-{
-    out.push_bytes(identity.path.as_bytes())?;
-    out.push(b'#')?;
-    out.push_bytes(identity.name.as_bytes())
+pub struct Statements<'a> {
+    pub subjects: Texts<'a>,
+    pub contents: Texts<'a>,
 }
 
 /// The text of an identity: path, `#` and name.
 pub fn identity_of(alloc: Global, identity: &Identity) -> Result<Text, Memory>
     ensures { IfOk result (λ t. t ≡ identity_text identity.now) }
 {
-    let mut out = Text::new(alloc);
-    push_identity(&mut out, identity)?;
-    Ok(out)
+    Text::from_bytes(alloc, identity.as_bytes())
 }
 
 /// The texts of two identities with a blank between them.
@@ -59,13 +49,13 @@ fn pair_of(alloc: Global, first: &Identity, second: &Identity) -> Result<Text, M
 {
     let mut out = identity_of(alloc, first)?;
     out.push(b' ')?;
-    push_identity(&mut out, second)?;
+    out.push_bytes(second.as_bytes())?;
     Ok(out)
 }
 
-impl Statements {
+impl<'a> Statements<'a> {
     /// No statements.
-    pub fn new(alloc: Global) -> Statements
+    pub fn new(alloc: Global) -> Statements<'a>
         ensures subjects { result.subjects ≡ [] }
         ensures contents { result.contents ≡ [] }
     {
@@ -76,37 +66,43 @@ impl Statements {
     }
 
     /// Adds what is said of an identity.
-    fn push_said(&mut self, subject: &Identity, content: &Text) -> Result<(), Memory>
+    fn push_said(&mut self, subject: &'a Identity, content: &'a Text) -> Result<(), Memory>
         ensures subjects { OnOk result (self.new.subjects ≡ self.old.subjects ++ identity_text subject.now ∷ []) }
         ensures contents { OnOk result (self.new.contents ≡ self.old.contents ++ content.now ∷ []) }
     {
-        self.subjects
-            .push_identity(subject.path.as_bytes(), subject.name.as_bytes())?;
-        self.contents.push(content.as_bytes())
+        self.subjects.push(Piece::Identity(subject))?;
+        self.contents.push(Piece::Lent(content))
     }
 
     /// Adds that a lemma calls another one.
-    fn push_call(&mut self, caller: &Identity, callee: &Identity) -> Result<(), Memory>
+    fn push_call(&mut self, caller: &'a Identity, callee: &'a Identity) -> Result<(), Memory>
         ensures subjects { OnOk result (self.new.subjects ≡ self.old.subjects ++ identity_text caller.now ∷ []) }
         ensures contents { OnOk result (self.new.contents ≡ self.old.contents ++ identity_text callee.now ∷ []) }
     {
-        self.subjects
-            .push_identity(caller.path.as_bytes(), caller.name.as_bytes())?;
-        self.contents
-            .push_identity(callee.path.as_bytes(), callee.name.as_bytes())
+        self.subjects.push(Piece::Identity(caller))?;
+        self.contents.push(Piece::Identity(callee))
     }
 
     /// Adds what is said of a text.
-    fn push_told(&mut self, subject: &Text, content: &Text) -> Result<(), Memory>
+    fn push_told(&mut self, subject: &'a Text, content: &'a Text) -> Result<(), Memory>
         ensures subjects { OnOk result (self.new.subjects ≡ self.old.subjects ++ subject.now ∷ []) }
         ensures contents { OnOk result (self.new.contents ≡ self.old.contents ++ content.now ∷ []) }
     {
-        self.subjects.push(subject.as_bytes())?;
-        self.contents.push(content.as_bytes())
+        self.subjects.push(Piece::Lent(subject))?;
+        self.contents.push(Piece::Lent(content))
+    }
+
+    /// Adds what is said of a text that was made.
+    fn push_made(&mut self, subject: Box<Text>, content: &'a Text) -> Result<(), Memory>
+        ensures subjects { OnOk result (self.new.subjects ≡ self.old.subjects ++ subject.value ∷ []) }
+        ensures contents { OnOk result (self.new.contents ≡ self.old.contents ++ content.now ∷ []) }
+    {
+        self.subjects.push(Piece::Made(subject))?;
+        self.contents.push(Piece::Lent(content))
     }
 
     /// Adds what a line says on a topic.
-    fn push_line(&mut self, alloc: Global, topic: Topic, line: &Line) -> Result<(), Memory>
+    fn push_line(&mut self, alloc: Global, topic: Topic, line: &'a Line) -> Result<(), Memory>
         ensures subjects { OnOk result (self.new.subjects
             ≡ self.old.subjects ++ subjects (statements topic (line.now ∷ []))) }
         ensures contents { OnOk result (self.new.contents
@@ -122,7 +118,7 @@ impl Statements {
                     function,
                     file,
                 },
-            ) => self.push_told(&pair_of(alloc, family, function)?, file),
+            ) => self.push_made(Box::new(alloc, pair_of(alloc, family, function)?)?, file),
             (
                 Topic::Provided,
                 Line::Provides {
@@ -144,7 +140,7 @@ impl Statements {
     }
 
     /// Adds what some lines say on a topic.
-    fn push_lines(&mut self, alloc: Global, topic: Topic, lines: &[Line]) -> Result<(), Memory>
+    fn push_lines(&mut self, alloc: Global, topic: Topic, lines: &'a [Line]) -> Result<(), Memory>
         ensures subjects { OnOk result (self.new.subjects
             ≡ self.old.subjects ++ subjects (statements topic lines.now)) }
         ensures contents { OnOk result (self.new.contents
@@ -161,7 +157,7 @@ impl Statements {
         &mut self,
         alloc: Global,
         topic: Topic,
-        manifests: &[Manifest],
+        manifests: &'a [Manifest],
     ) -> Result<(), Memory>
         ensures subjects { OnOk result (self.new.subjects
             ≡ self.old.subjects ++ subjects (statements topic (all_lines manifests.now))) }
@@ -176,7 +172,11 @@ impl Statements {
 }
 
 /// What the lines of some manifests say on a topic.
-pub fn stated(alloc: Global, topic: Topic, manifests: &[Manifest]) -> Result<Statements, Memory>
+pub fn stated<'a>(
+    alloc: Global,
+    topic: Topic,
+    manifests: &'a [Manifest],
+) -> Result<Statements<'a>, Memory>
     ensures subjects { IfOk result (λ s. s.subjects ≡ subjects (statements topic (all_lines manifests.now))) }
     ensures contents { IfOk result (λ s. s.contents ≡ contents (statements topic (all_lines manifests.now))) }
 {

@@ -1,43 +1,55 @@
-//! Lists of texts that stand one behind the other in one piece of memory.
+//! Lists of texts, most of which are lent.
 
 ghost use Rattle.std.specs.Prelude.{◌≡◌, ◌<◌, ◌∷◌, ◌++◌, [], length, get_or, OnOk};
+ghost use Rattle.vf_link.specs.Pieces.{piece_text};
 
 use std::alloc::Global;
 use std::marker::Model;
-use vf_base::Memory;
+use vf_base::{Memory, Text};
+use vf_manifest::Identity;
 
-/// Where a text stands among bytes.
-#[derive(Clone, Copy)]
-struct Span {
-    start: usize,
-    end: usize,
+/// Where a text stands: in an identity or a text that is lent, or in one that was made.
+#[derive(Drop)]
+pub enum Piece<'a> {
+    Identity(&'a Identity),
+    Lent(&'a Text),
+    Made(Box<Text>),
+}
+
+impl<'a> Piece<'a> {
+    fn as_bytes(&self) -> &[u8]
+        ensures { result.now ≡ piece_text self.now }
+    {
+        match self {
+            Piece::Identity(identity) => identity.as_bytes(),
+            Piece::Lent(text) => text.as_bytes(),
+            Piece::Made(text) => text.as_bytes(),
+        }
+    }
 }
 
 /// Texts, in order, which contracts see as the list of them.
 #[derive(Drop)]
-pub struct Texts {
-    bytes: Vec<u8>,
-    spans: Vec<Span>,
+pub struct Texts<'a> {
+    pieces: Vec<Piece<'a>>,
 }
 
-impl Model for Texts {
-    ghost use Rattle.std.specs.Prelude.{ℕ, List, ◌-◌, ◌≤◌, All, map, take, drop, length};
+impl<'a> Model for Texts<'a> {
+    ghost use Rattle.std.specs.Prelude.{ℕ, List, map};
+    ghost use Rattle.vf_link.specs.Pieces.{piece_text};
 
     ghost Value = { List (List ℕ) };
 
-    ghost view = { λ t. map (λ s. take (s.end - s.start) (drop s.start t.bytes.items)) t.spans.items };
-
-    ghost invariant = { λ t. All (λ s. (s.start ≤ s.end) × (s.end ≤ length t.bytes.items)) t.spans.items };
+    ghost view = { λ t. map piece_text t.pieces.items };
 }
 
-impl Texts {
+impl<'a> Texts<'a> {
     /// No texts, which take no memory.
-    pub fn new(alloc: Global) -> Texts
+    pub fn new(alloc: Global) -> Texts<'a>
         ensures { result ≡ [] }
     {
         Texts {
-            bytes: Vec::new(alloc),
-            spans: Vec::new(alloc),
+            pieces: Vec::new(alloc),
         }
     }
 
@@ -45,7 +57,7 @@ impl Texts {
     pub fn len(&self) -> usize
         ensures { result ≡ length self.now }
     {
-        self.spans.len()
+        self.pieces.len()
     }
 
     /// The text at an index, counted from 0.
@@ -53,41 +65,22 @@ impl Texts {
         requires { at < length self.now }
         ensures { result.now ≡ get_or self.now at [] }
     {
-        let span = self.spans[at];
-        &self.bytes[span.start..span.end]
+        self.pieces[at].as_bytes()
     }
 
     /// Adds a text.
-    pub fn push(&mut self, text: &[u8]) -> Result<(), Memory>
-        ensures { OnOk result (self.new ≡ self.old ++ text.now ∷ []) }
+    pub fn push(&mut self, piece: Piece<'a>) -> Result<(), Memory>
+        ensures { OnOk result (self.new ≡ self.old ++ piece_text piece.entry ∷ []) }
     {
-        let start = self.bytes.len();
-        self.bytes.extend_from_slice(text)?;
-        let end = self.bytes.len();
-        self.spans.push(Span { start, end })?;
+        self.pieces.push(piece)?;
         Ok(())
     }
 
-    /// Adds the text of an identity: path, `#` and name.
-    pub fn push_identity(&mut self, path: &[u8], name: &[u8]) -> Result<(), Memory>
-        ensures { OnOk result (self.new ≡ self.old ++ (path.now ++ 35 ∷ name.now) ∷ []) }
+    /// Adds some texts, of which none is left in the other list.
+    pub fn append(&mut self, texts: &mut Texts<'a>) -> Result<(), Memory>
+        ensures { OnOk result (self.new ≡ self.old ++ texts.old) }
     {
-        let start = self.bytes.len();
-        self.bytes.extend_from_slice(path)?;
-        self.bytes.push(b'#')?;
-        self.bytes.extend_from_slice(name)?;
-        let end = self.bytes.len();
-        self.spans.push(Span { start, end })?;
-        Ok(())
-    }
-
-    /// Adds some texts.
-    pub fn append(&mut self, texts: &Texts) -> Result<(), Memory>
-        ensures { OnOk result (self.new ≡ self.old ++ texts.now) }
-    {
-        for at in 0..texts.len() {
-            self.push(texts.get(at))?;
-        }
+        self.pieces.append(&mut texts.pieces)?;
         Ok(())
     }
 }

@@ -1,6 +1,6 @@
 -- Texts cut at a byte, and tests of their bytes.
-use Rattle.std.proofs.Common.{◌≡◌, ℕ, suc, ◌+◌, ◌-◌, ◌<◌, ◌≤◌, Bool, true, false, cond, List, [], ◌∷◌, ◌++◌, length, take, drop, Option, Some, None, refl, sym, ap, subst, ◌∙◌, inl, inr, length-append, length-drop, arith}
-use Rattle.std.specs.Prelude.{◌==◌, ◌⊎◌, not, ◌&&◌, nat_lt, nat_eq}
+use Rattle.std.proofs.Common.{◌≡◌, ℕ, zero, suc, ◌+◌, ◌-◌, ◌<◌, ◌≤◌, Bool, true, false, cond, List, [], ◌∷◌, ◌++◌, length, take, drop, Option, Some, None, refl, sym, ap, subst, ◌∙◌, inl, inr, length-append, length-drop, arith}
+use Rattle.std.specs.Prelude.{◌==◌, ◌⊎◌, not, ◌&&◌, nat_lt, nat_eq, slice_index}
 use Rattle.std.specs.List.{list_all, list_any, position_or_len, position, starts_with, slice_split, onto_first}
 use Rattle.std.specs.Str.{bytes_eq}
 use Rattle.std.proofs.lemmas.Bool.{ltb-true, ltb-false, both_ways, eqb-true, eq-eqb, ne_eqb, and_parts, and_from, or_cases, not-true, not_from_false}
@@ -194,3 +194,34 @@ and_true_right false = refl
 pub each_end : (test : List ℕ → Bool) (c : ℕ) (left : List ℕ) (total : Bool) → None ≡ cut c left → list_all test (slice_split (λ x. x == c) left) ≡ total → test left ≡ total
 each_end test c left total e so_far =
     and_true_right (test left) ∙ ap (list_all test) (sym (parts_whole c left (sym e))) ∙ so_far
+
+-- ---- the first byte of this value, as a search has it
+
+pub next : (n : ℕ) → suc n + 1 ≡ suc (n + 1)
+next n = omega arith
+
+false_of : (b : Bool) → (b ≡ true → ⊥) → b ≡ false
+false_of true h = absurd (h refl)
+false_of false h = refl
+
+pub cut_first : (c : ℕ) (text : List ℕ) (at : ℕ) → at < length text → ((k : ℕ) → k < at → (slice_index text k == c) ≡ true → ⊥) → (slice_index text at == c) ≡ true
+    → cut c text ≡ Some (take at text, drop (at + 1) text)
+unfolding cut
+cut_first c [] at h before e = absurd (omega arith)
+cut_first c (x ∷ xs) zero h before e = ap (λ t. cond t (Some ([], xs)) (cut c xs >>= λ q. Some (x ∷ q.0, q.1))) e
+cut_first c (x ∷ xs) (suc at) h before e =
+    ap (λ t. cond t (Some ([], xs)) (cut c xs >>= λ q. Some (x ∷ q.0, q.1))) (false_of (x == c) (before 0 (omega arith)))
+    ∙ ap (λ o. o >>= λ q. Some (x ∷ q.0, q.1)) (cut_first c xs at (omega arith) (λ k l. before (suc k) (omega (arith, l))) e)
+    ∙ ap (λ m. Some (x ∷ take at xs, drop m (x ∷ xs))) (sym (next at))
+
+pub cut_nowhere : (c : ℕ) (text : List ℕ) → ((k : ℕ) → k < length text → (slice_index text k == c) ≡ true → ⊥) → cut c text ≡ None
+unfolding cut
+cut_nowhere c [] no_place = refl
+cut_nowhere c (x ∷ xs) no_place =
+    ap (λ t. cond t (Some ([], xs)) (cut c xs >>= λ q. Some (x ∷ q.0, q.1))) (false_of (x == c) (no_place 0 (omega arith)))
+    ∙ ap (λ o. o >>= λ q. Some (x ∷ q.0, q.1)) (cut_nowhere c xs (λ k l. no_place (suc k) (omega (arith, l))))
+
+-- what stands before a place and behind it, as slices give it
+pub parts_at : (c : ℕ) (text : List ℕ) (at : ℕ) → cut c text ≡ Some (take at text, drop (at + 1) text)
+    → ◌≡◌ {A = Option (List ℕ × List ℕ)} (Some (take at text, take (length text - (at + 1)) (drop (at + 1) text))) (cut c text)
+parts_at c text at e = ap (λ r. Some (take at text, r)) (take_all (length text - (at + 1)) (drop (at + 1) text) (omega (arith, length-drop (at + 1) text))) ∙ sym e

@@ -5,3 +5,5 @@ pub mod ManifestLaws
 pub mod SortLaws
 pub mod OrderLaws
 pub mod Trees
+pub mod Naming
+pub mod Plain

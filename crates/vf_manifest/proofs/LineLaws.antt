@@ -6,7 +6,7 @@ use Rattle.std.specs.Str.{bytes_eq}
 use Rattle.std.proofs.lemmas.Bool.{and_parts, and_from}
 use Rattle.std.proofs.lemmas.List.{append-nil}
 use Rattle.std.proofs.lemmas.Slice.Eq.{bytes_eq-Decides}
-use Rattle.vf_manifest.specs.declared.line.Identity.{Identity}
+use Rattle.vf_manifest.specs.Identities.{Identity}
 use Rattle.vf_manifest.specs.declared.line.Line.{Line}
 use Rattle.vf_manifest.specs.declared.line.Line.TheVariants as lines
 use Rattle.vf_manifest.specs.declared.line.Version.{Version}

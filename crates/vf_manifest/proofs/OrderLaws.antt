@@ -13,7 +13,7 @@ use Rattle.std.proofs.lemmas.Cmp.{ranked}
 use Rattle.std.proofs.lemmas.List.{append_cancel_left}
 use Rattle.std.proofs.lemmas.List.Folds.{list_all-append}
 use Rattle.std.proofs.lemmas.Slice.Eq.{bytes_eq-Decides}
-use Rattle.vf_manifest.specs.declared.line.Identity.{Identity}
+use Rattle.vf_manifest.specs.Identities.{Identity}
 use Rattle.vf_manifest.specs.declared.line.Line.{Line}
 use Rattle.vf_manifest.specs.declared.line.Line.TheVariants as lines
 use Rattle.vf_manifest.specs.declared.line.Version.TheVariants.{Second}

@@ -4,7 +4,7 @@ use Rattle.std.specs.Prelude.{◌==◌, not, ◌&&◌}
 use Rattle.std.specs.Char.{is_ascii_digit}
 use Rattle.std.specs.List.{list_all}
 use Rattle.std.proofs.lemmas.Bool.{and_parts, and_from, or_cases, or_left, cond-true}
-use Rattle.vf_manifest.specs.declared.line.Identity.{Identity}
+use Rattle.vf_manifest.specs.Identities.{Identity}
 use Rattle.vf_manifest.specs.Cuts.{◌>>=◌, cut}
 use Rattle.vf_manifest.specs.Words.{is_path_byte, is_file_path, prelude_paths, is_prelude_path, is_path, is_letter, is_word_byte, is_name, identity_text, is_identity, is_own_identity}
 use Rattle.vf_manifest.specs.Lines.{two}

@@ -1,3 +1,4 @@
+pub mod Identities
 pub mod Cuts
 pub mod Words
 pub mod Signatures

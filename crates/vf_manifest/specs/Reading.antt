@@ -3,7 +3,7 @@ use Rattle.std.specs.Prelude.{◌≡◌, ℕ, Bool, List, codes, Option, Some, N
 use Rattle.std.specs.Str.{bytes_eq}
 use Rattle.vf_manifest.specs.declared.fault.WordFault.{WordFault}
 use Rattle.vf_manifest.specs.declared.fault.WordFault.TheVariants as faults
-use Rattle.vf_manifest.specs.declared.line.Identity.{Identity}
+use Rattle.vf_manifest.specs.Identities.{Identity}
 use Rattle.vf_manifest.specs.declared.line.Line.{Line}
 use Rattle.vf_manifest.specs.declared.line.Line.TheVariants as lines
 use Rattle.vf_manifest.specs.declared.line.Version.{Version}

@@ -3,7 +3,7 @@ use Rattle.std.specs.Prelude.{ℕ, ◌==◌, Bool, false, not, ◌||◌, ◌&&�
 use Rattle.std.specs.Char.{is_ascii_alphabetic, is_ascii_digit}
 use Rattle.std.specs.List.{list_all, list_any}
 use Rattle.std.specs.Str.{bytes_eq}
-use Rattle.vf_manifest.specs.declared.line.Identity.{Identity}
+use Rattle.vf_manifest.specs.Identities.{Identity}
 
 -- a byte that is printed and no blank
 abbrev pub is_visible : ℕ → Bool

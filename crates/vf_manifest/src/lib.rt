@@ -12,6 +12,7 @@
 
 mod fault;
 mod hashing;
+mod identity;
 mod kind;
 mod line;
 mod manifest;
@@ -22,7 +23,8 @@ mod words;
 
 pub use fault::ManifestFault;
 pub use hashing::digest;
-pub use line::{Identity, Line, Version};
+pub use identity::Identity;
+pub use line::{Line, Version};
 pub use manifest::{MOST_BYTES, Manifest, one_reading, read_manifest, texts_ascend};
 pub use signature::trees_are_read;
 pub use spelling::write_manifest;

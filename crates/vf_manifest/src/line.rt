@@ -1,13 +1,7 @@
 //! The lines of manifests.
 
+use crate::identity::Identity;
 use vf_base::Text;
-
-/// What a thing is called among all files of a program: the path of the file of its first declaration, and its name.
-#[derive(Debug, Drop)]
-pub struct Identity {
-    pub path: Text,
-    pub name: Text,
-}
 
 /// A line of a manifest.
 #[derive(Debug, Drop)]

@@ -9,11 +9,12 @@ ghost use Rattle.vf_manifest.specs.Manifests.{Ascends, IsManifest, IsManifestTex
 ghost use Rattle.vf_manifest.specs.Reading.{Gives, pair_at, placed_at, signed_at, located_at, instance_at, used_at, words_at, line_at};
 
 use crate::fault::{ManifestFault, WordFault};
+use crate::identity::Identity;
 use crate::kind::{Kind, kind_of};
-use crate::line::{Identity, Line, Version};
+use crate::line::{Line, Version};
 use crate::order::is_before;
 use crate::signature::signature;
-use crate::words::{cut, digest_text, file_path, identity, own_identity, path, split};
+use crate::words::{cut, digest_text, file_path, identity, own_identity, path, split_line};
 use std::alloc::Global;
 use vf_base::{Sequence, Text};
 
@@ -238,7 +239,7 @@ pub fn read_manifest(alloc: Global, bytes: &[u8]) -> Result<Manifest, ManifestFa
     let mut last: &[u8] = &[];
     let mut number = 2;
     'lines: while left.len() > 0 {
-        let Some((text, rest)) = split(left, b'\n') else {
+        let Some((text, rest)) = split_line(left) else {
             return Err(ManifestFault::Syntax { line: number });
         };
         let line = match line_of(alloc, version, text) {

@@ -2,13 +2,14 @@
 
 ghost use Rattle.std.specs.Prelude.{◌≡◌, ◌==◌, ◌≤◌, ◌&&◌, true, not, ℕ, List, [], ◌∷◌, ◌++◌, length, reverse, IfOk};
 ghost use Rattle.std.specs.Char.{is_ascii_digit};
-ghost use Rattle.std.specs.List.{list_all, prefix_len, slice_split};
+ghost use Rattle.std.specs.List.{list_all, list_any, prefix_len, slice_split};
+ghost use Rattle.std.specs.Str.{bytes_eq};
 ghost use Rattle.std.specs.Option.{option_map};
 ghost use Rattle.vf_manifest.specs.declared.signature.Stage.TheVariants as stages;
 ghost use Rattle.vf_manifest.specs.Reading.{Gives, tested};
 ghost use Rattle.vf_manifest.specs.Trees.{Sorts, are_good, sorts_text};
 ghost use Rattle.vf_manifest.specs.Words.{is_visible};
-ghost use Rattle.vf_manifest.specs.Signatures.{is_empty, is_starred_name, is_pointer_type, is_type, are_types, is_function, is_numeral, is_at_most, is_parameter, is_datatype, is_sort_word, is_sort_byte, can_begin, ends_sort, ends_none, closes, next, are_sorts, is_lemma, is_signature};
+ghost use Rattle.vf_manifest.specs.Signatures.{plain_types, is_empty, is_starred_name, is_pointer_type, is_type, are_types, is_function, is_numeral, is_at_most, is_parameter, is_datatype, is_sort_word, is_sort_byte, can_begin, ends_sort, ends_none, closes, next, are_sorts, is_lemma, is_signature};
 
 use crate::fault::WordFault;
 use crate::words::{first_and_rest, is_among, is_name, is_text, is_visible, is_word_byte, split};
@@ -21,6 +22,9 @@ const PLAIN_TYPES: [&str; 14] = [
     "void", "bool", "char", "uchar", "short", "ushort", "int", "uint", "long", "ulong", "llong",
     "ullong", "void*", "int*",
 ];
+
+/// How many bytes the longest of these has.
+const LONGEST_PLAIN: usize = 6;
 
 /// The sorts that have names of their own.
 const OWN_SORTS: [&str; 5] = ["int", "bool", "ptr", "real", "any"];
@@ -55,11 +59,18 @@ fn is_pointer_type(text: &[u8]) -> bool
     }
 }
 
+#[tactic(auto, using(crate::proofs::Plain::long_is_not_plain))]
+fn is_plain_type(text: &[u8]) -> bool
+    ensures { result ≡ list_any (λ t. bytes_eq text.now t) plain_types }
+{
+    text.len() <= LONGEST_PLAIN && is_among(&PLAIN_TYPES, text)
+}
+
 #[tactic(auto, unfolding(crate::specs::Signatures::is_type))]
 fn is_type(text: &[u8]) -> bool
     ensures { result ≡ is_type text.now }
 {
-    is_among(&PLAIN_TYPES, text) || is_pointer_type(text)
+    is_plain_type(text) || is_pointer_type(text)
 }
 
 /// Whether each part between commas is a type.

@@ -7,7 +7,8 @@ ghost use Rattle.vf_manifest.specs.Words.{identity_text};
 ghost use Rattle.vf_manifest.specs.Lines.{key, signature_part};
 ghost use Rattle.vf_manifest.specs.Manifests.{IsManifest, IsManifestText, ended, text_of};
 
-use crate::line::{Identity, Line};
+use crate::identity::Identity;
+use crate::line::Line;
 use crate::manifest::Manifest;
 use std::alloc::Global;
 use vf_base::{Memory, Text};
@@ -15,9 +16,7 @@ use vf_base::{Memory, Text};
 fn push_identity(out: &mut Text, identity: &Identity) -> Result<(), Memory>
     ensures { OnOk result (out.new ≡ out.old ++ identity_text identity.now) }
 {
-    out.push_bytes(identity.path.as_bytes())?;
-    out.push(b'#')?;
-    out.push_bytes(identity.name.as_bytes())
+    out.push_bytes(identity.as_bytes())
 }
 
 fn push_key(out: &mut Text, line: &Line) -> Result<(), Memory>

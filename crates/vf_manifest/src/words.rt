@@ -9,7 +9,7 @@ ghost use Rattle.vf_manifest.specs.Cuts.{cut};
 ghost use Rattle.vf_manifest.specs.Reading.{Gives, tested, identity_at};
 
 use crate::fault::WordFault;
-use crate::line::Identity;
+use crate::identity::Identity;
 use std::alloc::Global;
 use vf_base::Text;
 
@@ -166,6 +166,16 @@ pub fn split(text: &[u8], byte: u8) -> Option<(&[u8], &[u8])>
     }
 }
 
+/// The first line of a text, without the line feed that ends it, and what stands behind it.
+pub fn split_line(text: &[u8]) -> Option<(&[u8], &[u8])>
+    ensures { option_map (λ x. (x.0.now, x.1.now)) result ≡ cut 10 text.now }
+{
+    match memchr::memchr(b'\n', text) {
+        Some(at) => Some((&text[..at], &text[at + 1..])),
+        None => None,
+    }
+}
+
 /// The same, where that byte has to stand in the text.
 pub fn cut(text: &[u8], byte: u8) -> Result<(&[u8], &[u8]), WordFault>
     ensures { Gives (λ x. (x.0.now, x.1.now)) result (cut byte text.now) }
@@ -206,15 +216,6 @@ pub fn digest_text(alloc: Global, text: &[u8]) -> Result<Text, WordFault>
     Ok(Text::from_bytes(alloc, text)?)
 }
 
-fn identity_of(alloc: Global, path: &[u8], name: &[u8]) -> Result<Identity, WordFault>
-    ensures value { IfOk result (λ i. i ≡ record { path = path.now; name = name.now }) }
-    ensures memory { result ≡ Err WordFault.Syntax → ⊥ }
-{
-    let path = Text::from_bytes(alloc, path)?;
-    let name = Text::from_bytes(alloc, name)?;
-    Ok(Identity { path, name })
-}
-
 /// An identity.
 #[tactic(auto, unfolding(crate::specs::Reading::identity_at))]
 pub fn identity(alloc: Global, text: &[u8]) -> Result<Identity, WordFault>
@@ -226,7 +227,7 @@ pub fn identity(alloc: Global, text: &[u8]) -> Result<Identity, WordFault>
     if !(is_path && is_name) {
         return Err(WordFault::Syntax);
     }
-    identity_of(alloc, path, name)
+    Ok(Identity::of_text(alloc, text, path, name)?)
 }
 
 /// An identity of a file.
@@ -240,5 +241,5 @@ pub fn own_identity(alloc: Global, text: &[u8]) -> Result<Identity, WordFault>
     if !(is_path && is_name) {
         return Err(WordFault::Syntax);
     }
-    identity_of(alloc, path, name)
+    Ok(Identity::of_text(alloc, text, path, name)?)
 }

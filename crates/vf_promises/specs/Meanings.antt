@@ -14,7 +14,7 @@ use Rattle.vf_declared.specs.declared.declaration.Signature.{Signature}
 use Rattle.vf_declared.specs.declared.declaration.Structure.{Structure}
 use Rattle.vf_declared.specs.declared.locals.Locals.{Locals}
 use Rattle.vf_declared.specs.declared.scope.Scope.{Scope}
-use Rattle.vf_manifest.specs.declared.line.Identity.{Identity}
+use Rattle.vf_manifest.specs.Identities.{Identity}
 use Rattle.vf_terms.specs.Named.{first_path, path_or_none}
 use Rattle.vf_promises.specs.declared.type_names.TypeNames.{TypeNames}
 use Rattle.vf_promises.specs.Signatures.{function_signature, lemma_signature}

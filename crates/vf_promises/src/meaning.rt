@@ -55,10 +55,8 @@ fn identity_in(
 ) -> Result<Identity, Memory>
     ensures { IfOk result (λ i. i ≡ identity_in snapshot.now files.now name.now) }
 {
-    Ok(Identity {
-        path: first_path(alloc, snapshot, files)?,
-        name: Text::from_bytes(alloc, name)?,
-    })
+    let path = first_path(alloc, snapshot, files)?;
+    Identity::new(alloc, path.as_bytes(), name)
 }
 
 /// What declares a name of file level.
