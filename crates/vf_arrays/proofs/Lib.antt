@@ -1,0 +1,4 @@
+pub mod Comparing
+pub mod Inside
+pub mod Rows
+pub mod Finding

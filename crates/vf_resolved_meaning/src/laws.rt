@@ -1,0 +1,8 @@
+//! Laws of the meaning of resolved trees. Each function does nothing; its contract is the law.
+
+ghost use Rattle.vf_resolved_meaning.specs.Laws.{TruthsMeanTheirTerms};
+
+/// A truth value that is told apart means what its term means.
+pub fn truths_mean_their_terms()
+    ensures { TruthsMeanTheirTerms }
+{}

@@ -1,0 +1,5 @@
+pub mod Kept
+pub mod Beginning
+pub mod Items
+pub mod Answers
+pub mod Units
