@@ -1,8 +1,11 @@
 -- What contracts and bodies of predicates come to where they are resolved, from the answers for their parts.
 use Rattle.std.proofs.Common.{◌≡◌, ℕ, ◌+◌, List, [], ◌∷◌, ◌++◌, map, drop, Some, slice_get, Result, Ok, Err, refl, sym, subst, ap, ◌∙◌}
-use Rattle.vf_base.specs.declared.refusal.Refusal.{Refusal}
+use Rattle.std.specs.Prelude.{IfOk}
+use Rattle.vf_base.specs.declared.place.Place.{Place}
 use Rattle.vf_base.specs.declared.refusal.RuleFault.{RuleFault}
 use Rattle.vf_base.specs.declared.refusal.RuleFault.TheVariants as faults
+use Rattle.vf_closure.specs.Terms.{Term}
+use Rattle.vf_sorts.specs.Sorts.{Sort}
 use Rattle.vf_sorts.specs.Unknowns.{Known}
 use Rattle.vf_declared.specs.Changes.{first_locals}
 use Rattle.vf_declared.specs.declared.locals.Locals.{Locals}
@@ -10,7 +13,7 @@ use Rattle.vf_declared.specs.declared.scope.Scope.{Scope}
 use Rattle.vf_syntax.specs.declared.contract.Contract.{Contract}
 use Rattle.vf_syntax.specs.AssertionTree.{PartTree, part_list}
 use Rattle.vf_sorting.specs.declared.context.Context.{Context}
-use Rattle.vf_sorting.specs.Answers.{Tells}
+use Rattle.vf_sorting.specs.Schemes.{sort_of_local}
 use Rattle.vf_sorting.proofs.Lists.{left_at}
 use Rattle.vf_binding.proofs.Steps.{failing, wanting}
 use Rattle.vf_asserting.specs.Answers.{IsAssertion}
@@ -19,9 +22,13 @@ use Rattle.vf_asserting.specs.IsRefused.{AnyPartFails}
 use Rattle.vf_asserting.specs.Leaving.{count, left}
 use Rattle.vf_asserting.proofs.Wholes.{gone}
 use Rattle.vf_contracts.specs.Comes as contracts
+use Rattle.vf_resolved.specs.AssertionTree.{PartTree as Part}
+use Rattle.vf_resolved.specs.declared.contract.Names.{Names}
+use Rattle.vf_resolving.specs.Standings.{Around, Standing, leaving, with_sorts}
+use Rattle.vf_resolving.specs.Assertions.{PartsResolved, parts_resolved}
 use Rattle.vf_resolved_contracts.specs.declared.bodies.BodyRead as code_bodies
 use Rattle.vf_resolved_contracts.specs.declared.contracts.ContractRead as code
-use Rattle.vf_resolved_contracts.specs.Reading.{BodyRead, ContractRead, body_read, body_read_of, contract_read, read_of}
+use Rattle.vf_resolved_contracts.specs.Reading.{BodyRead, ContractRead, around_after, around_with, body_of, body_read, body_read_of, contract_of, contract_read, names_of, postcondition_read, read_of, result_symbol, starting, this_symbol, thread_symbol, unnumbered}
 use Rattle.vf_resolved_contracts.specs.Resolves.{BodyKnows, BodyResolves, ContractKnows, ContractResolves, IsBodyKnown, IsBodyResolved, IsContractKnown, IsContractResolved}
 use Rattle.vf_resolved_contracts.specs.Resolves as resolved
 
@@ -80,3 +87,74 @@ body_stops e i q = record { answers = failing _ _ _ e (λ r h. h) i.answers q }
 pub body_resolves : {c : Context} {paths : List (List ℕ)} {xs : List PartTree} {s t : Scope} {k : Known} {y : code_bodies.BodyRead} → IsBodyKnown c xs s (Ok k) t → body_read_of y ≡ body_read c k paths xs t → IsBodyResolved c paths xs s (Ok y)
 body_resolves {c = c} {paths = paths} {xs = xs} {s = s} i f =
     record { answers = subst (λ (z : BodyRead). BodyResolves c paths xs s z) (sym f) (resolved.BodyResolves.resolves i.answers) }
+
+-- ---- where a text begins
+-- the sorts of the parameters are put where nothing is numbered
+pub begun : (a : Around) (s : Scope) {ts us : List Sort} {xs : List Term} {w : Standing} → ts ≡ map sort_of_local s.locals.meanings → xs ≡ [] → us ≡ [] → w ≡ with_sorts a ts (record { scope = s; terms = xs; sorts = us; next = 0 }) → w ≡ starting a s
+begun a s {ts = ts} {us = us} {xs = xs} told none nothing is =
+    is
+    ∙ ap (λ (ys : List Term). with_sorts a ts (record { scope = s; terms = ys; sorts = us; next = 0 })) none
+    ∙ ap (λ (ys : List Sort). with_sorts a ts (record { scope = s; terms = []; sorts = ys; next = 0 })) nothing
+    ∙ ap (λ (ys : List Sort). with_sorts a ys (unnumbered s)) told
+
+-- ---- texts behind their parameters
+-- what stands around a text, whose words are these symbols
+abbrev pub around_from : Context → Known → List (List ℕ) → Term → Term → Term → Around
+around_from c k paths r t h = record { context = c; known = k; paths = paths; «result» = r; this_value = t; thread = h }
+
+pub words_told : (c : Context) (k : Known) (paths : List (List ℕ)) (r t h : Term) → r ≡ result_symbol c → t ≡ this_symbol → h ≡ thread_symbol → around_from c k paths r t h ≡ around_with c k paths
+words_told c k paths r t h e f g =
+    ap (λ (x : Term). around_from c k paths x t h) e
+    ∙ ap (λ (x : Term). around_from c k paths (result_symbol c) x h) f
+    ∙ ap (λ (x : Term). around_from c k paths (result_symbol c) this_symbol x) g
+
+abbrev pub body_with : Names → List Part → Standing → BodyRead
+body_with m ys w = record { body = record { names = m; assertion = ys }; standing = w }
+
+-- a body
+pub body_told : (a : Around) (s : Scope) (xs : List PartTree) (n : ℕ) (w v : Standing) (ys : List Part) (m : Names)
+    → n ≡ count s → w ≡ starting a s → parts_resolved a w (part_list xs) ≡ record { parts = ys; standing = v } → m ≡ names_of n v
+    → body_with m ys v ≡ body_of (count s) (parts_resolved a (starting a s) (part_list xs))
+body_told a s xs n w v ys m many start told named =
+    ap (λ (z : Names). body_with z ys v) (named ∙ ap (λ k. names_of k v) many)
+    ∙ sym (ap (λ (z : PartsResolved). body_of (count s) z) (ap (λ (z : Standing). parts_resolved a z (part_list xs)) (sym start) ∙ told))
+
+pub body_around : {E : Type 0} (r : Result code_bodies.BodyRead E) (a : Around) (c : Context) (k : Known) (paths : List (List ℕ)) (xs : List PartTree) (s : Scope) → a ≡ around_with c k paths
+    → IfOk r (λ x. body_read_of x ≡ body_of (count s) (parts_resolved a (starting a s) (part_list xs)))
+    → IfOk r (λ x. body_read_of x ≡ body_read c k paths xs s)
+body_around r a c k paths xs s e h =
+    subst (λ (b : Around). IfOk r (λ x. body_read_of x ≡ body_of (count s) (parts_resolved b (starting b s) (part_list xs)))) e h
+
+abbrev pub contract_with : Place → Names → List Part → List Part → Standing → ContractRead
+contract_with p m xs ys w = record { contract = record { place = p; names = m; precondition = xs; postcondition = ys }; standing = w }
+
+-- a contract
+pub postcondition_told : (b : Around) (n : ℕ) (x : Contract) (ps : List Part) (w v u : Standing) (ys : List Part) (k : ℕ) (m : Names)
+    → k ≡ count w.scope → parts_resolved b w (part_list x.postcondition) ≡ record { parts = ys; standing = v } → u ≡ leaving k v → m ≡ names_of n u
+    → contract_with x.place m ps ys u ≡ postcondition_read b n x (record { parts = ps; standing = w })
+postcondition_told b n x ps w v u ys k m many told gone named =
+    ap (λ (z : Names). contract_with x.place z ps ys u) named
+    ∙ ap (λ (z : Standing). contract_with x.place (names_of n z) ps ys z) (gone ∙ ap (λ j. leaving j v) many)
+    ∙ sym (ap (contract_of n x.place (record { parts = ps; standing = w })) told)
+
+pub conditions_told : {E : Type 0} (r : Result code.ContractRead E) (a b : Around) (s : Scope) (x : Contract) (n : ℕ) (w v : Standing) (ys : List Part)
+    → n ≡ count s → w ≡ starting a s → parts_resolved a w (part_list x.precondition) ≡ record { parts = ys; standing = v }
+    → IfOk r (λ y. read_of y ≡ postcondition_read b n x (record { parts = ys; standing = v }))
+    → IfOk r (λ y. read_of y ≡ postcondition_read b (count s) x (parts_resolved a (starting a s) (part_list x.precondition)))
+conditions_told r a b s x n w v ys many start told h =
+    subst (λ (z : ContractRead). IfOk r (λ y. read_of y ≡ z)) (
+    ap (λ k. postcondition_read b k x (record { parts = ys; standing = v })) many
+    ∙ sym (ap (λ (z : PartsResolved). postcondition_read b (count s) x z) (ap (λ (z : Standing). parts_resolved a z (part_list x.precondition)) (sym start) ∙ told))
+    ) h
+
+pub contract_behind : {E : Type 0} (r : Result code.ContractRead E) (a b : Around) (c : Context) (x : Contract) (s : Scope) → b ≡ around_after a c
+    → IfOk r (λ y. read_of y ≡ postcondition_read b (count s) x (parts_resolved a (starting a s) (part_list x.precondition)))
+    → IfOk r (λ y. read_of y ≡ postcondition_read (around_after a c) (count s) x (parts_resolved a (starting a s) (part_list x.precondition)))
+contract_behind r a b c x s e h =
+    subst (λ (u : Around). IfOk r (λ y. read_of y ≡ postcondition_read u (count s) x (parts_resolved a (starting a s) (part_list x.precondition)))) e h
+
+pub contract_around : {E : Type 0} (r : Result code.ContractRead E) (a : Around) (c d : Context) (k : Known) (paths : List (List ℕ)) (x : Contract) (s : Scope) → a ≡ around_with c k paths
+    → IfOk r (λ y. read_of y ≡ postcondition_read (around_after a d) (count s) x (parts_resolved a (starting a s) (part_list x.precondition)))
+    → IfOk r (λ y. read_of y ≡ contract_read c d k paths x s)
+contract_around r a c d k paths x s e h =
+    subst (λ (u : Around). IfOk r (λ y. read_of y ≡ postcondition_read (around_after u d) (count s) x (parts_resolved u (starting u s) (part_list x.precondition)))) e h

@@ -1,9 +1,8 @@
 -- Contracts, invariants and bodies of predicates as resolved trees, where what is known of unknown sorts in the end is given.
-use Rattle.std.specs.Prelude.{ℕ, List, [], map, Option, Some, None}
+use Rattle.std.specs.Prelude.{ℕ, List, [], map}
 use Rattle.vf_base.specs.declared.place.Place.{Place}
 use Rattle.vf_meaning.specs.Ghost.{Result, This, CurrentThread}
 use Rattle.vf_closure.specs.Terms.{Integer, Other, Symbol, Term, term, no_terms}
-use Rattle.vf_sorts.specs.Sorts.{Sort}
 use Rattle.vf_sorts.specs.Unknowns.{Known}
 use Rattle.vf_declared.specs.declared.scope.Scope.{Scope}
 use Rattle.vf_syntax.specs.declared.contract.Contract as written
@@ -41,6 +40,17 @@ around_with c k paths = record {
   «result» = result_symbol c;
   this_value = this_symbol;
   thread = thread_symbol;
+}
+
+-- the same around another text, in which the words that may stand there and the result are others
+abbrev pub around_after : Around → Context → Around
+around_after a c = record {
+  context = c;
+  known = a.known;
+  paths = a.paths;
+  «result» = result_symbol c;
+  this_value = a.this_value;
+  thread = a.thread;
 }
 
 -- what is declared, where no name has a number yet

@@ -1,7 +1,6 @@
 -- What contracts and bodies of predicates come to where they are resolved: their resolved trees, or the refusal of their sorting.
 use Rattle.std.specs.Prelude.{ℕ, List, []}
 use Rattle.std.specs.declared.result.Result.{Result}
-use Rattle.vf_base.specs.declared.refusal.Refusal.{Refusal}
 use Rattle.vf_base.specs.declared.refusal.RuleFault.{RuleFault}
 use Rattle.vf_sorts.specs.Unknowns.{Known}
 use Rattle.vf_declared.specs.declared.scope.Scope.{Scope}

@@ -5,7 +5,7 @@ ghost use Rattle.vf_syntax.specs.AssertionTree.{part_list};
 ghost use Rattle.vf_asserting.specs.Leaving.{count};
 ghost use Rattle.vf_resolving.specs.Standings.{around_of, standing_of};
 ghost use Rattle.vf_resolving.specs.Assertions.{parts_resolved};
-ghost use Rattle.vf_resolved_contracts.specs.Reading.{contract_read, postcondition_read, read_of, starting};
+ghost use Rattle.vf_resolved_contracts.specs.Reading.{around_after, contract_read, postcondition_read, read_of, starting};
 ghost use Rattle.vf_resolved_contracts.specs.Resolves.{IsContractKnown, IsContractResolved};
 
 use crate::starts::{count_of, names_of, starting, visible};
@@ -90,6 +90,28 @@ fn conditions_read(
     postcondition_read(after, parameters, contract, precondition, standing)
 }
 
+/// A contract behind its parameters, with what stands around its precondition.
+fn contract_behind(
+    before: &Around<'_>,
+    scope: Scope,
+    after: &Context,
+    contract: &Written,
+) -> Result<ContractRead, Memory>
+    ensures { IfOk result (λ x. read_of x ≡ postcondition_read (around_after (around_of before.now) after.now) (count scope) contract.now (parts_resolved (around_of before.now) (starting (around_of before.now) scope) (part_list contract.now.precondition))) }
+{
+    let result = result_symbol(before.alloc, after);
+    let behind = Around {
+        alloc: before.alloc,
+        context: after,
+        unknowns: before.unknowns,
+        paths: before.paths,
+        result: &result,
+        this_value: before.this_value,
+        thread: before.thread,
+    };
+    conditions_read(before, &behind, scope, contract)
+}
+
 /// A contract behind its parameters, with what is known of unknown sorts in the end.
 fn contract_read(
     alloc: Global,
@@ -102,29 +124,19 @@ fn contract_read(
 ) -> Result<ContractRead, Memory>
     ensures { IfOk result (λ x. read_of x ≡ contract_read before.now after.now unknowns.now paths.now contract.now scope) }
 {
+    let result = result_symbol(alloc, before);
     let this_value = this_symbol(alloc);
     let thread = thread_symbol(alloc);
-    let result_before = result_symbol(alloc, before);
-    let result_after = result_symbol(alloc, after);
-    let in_front = Around {
+    let around = Around {
         alloc,
         context: before,
         unknowns,
         paths,
-        result: &result_before,
+        result: &result,
         this_value: &this_value,
         thread: &thread,
     };
-    let behind = Around {
-        alloc,
-        context: after,
-        unknowns,
-        paths,
-        result: &result_after,
-        this_value: &this_value,
-        thread: &thread,
-    };
-    conditions_read(&in_front, &behind, scope, contract)
+    contract_behind(&around, scope, after, contract)
 }
 
 /// A contract behind its parameters, which are the locals, with what stands around its precondition and around its

@@ -47,7 +47,7 @@ fn around_contract() -> Context
 /// # Errors
 ///
 /// Refused where a parameter or the sorting of the body is refused.
-#[tactic(auto, using(crate::proofs::Steps::first_stop, crate::proofs::Steps::others_stop, crate::proofs::Steps::body_resolves))]
+#[tactic(auto)]
 pub fn predicate_resolved(
     alloc: Global,
     scope: Scope,
@@ -73,7 +73,7 @@ pub fn predicate_resolved(
 /// # Errors
 ///
 /// Refused where a parameter or the sorting of the contract is refused.
-#[tactic(auto, using(crate::proofs::Steps::parameters_stop, crate::proofs::Steps::contract_resolves))]
+#[tactic(auto)]
 pub fn lemma_resolved(
     alloc: Global,
     scope: Scope,

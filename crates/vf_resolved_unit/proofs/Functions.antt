@@ -70,8 +70,8 @@ begins_bare {paths = paths} {g = g} {c = c} {s = s} {res = res} e f i =
 abbrev state : List Entry → Table → Table → Told
 state es fs ms = record { entries = es; functions = fs; lemmas = ms }
 
-without_its : {paths : List (List ℕ)} {x : Item} {s t : Scope} {u v : Told} {l : Locals} → l ≡ no_locals → ItemTells paths s u x v (without_locals t) → ItemTells paths s u x v (record t { locals = l })
-without_its {paths = paths} {x = x} {s = s} {t = t} {u = u} {v = v} h i = subst (λ (l : Locals). ItemTells paths s u x v (record t { locals = l })) (sym h) i
+without_its : {paths : List (List ℕ)} {x : Item} {s : Scope} (t : Scope) {u v : Told} {l : Locals} → l ≡ no_locals → ItemTells paths s u x v (without_locals t) → ItemTells paths s u x v (record t { locals = l })
+without_its {paths = paths} {x = x} {s = s} t {u = u} {v = v} h i = subst (λ (l : Locals). ItemTells paths s u x v (record t { locals = l })) (sym h) i
 
 -- ---- function types
 pub type_memory : {paths : List (List ℕ)} {g : WrittenSignature} {c : Option written.Contract} {s t : Scope} {u v : Told} {res : Result (Unit {0}) RuleFault} → res ≡ Err faults.Memory → TypeComes paths g c s u res t v
@@ -86,7 +86,7 @@ pub type_comes : {paths : List (List ℕ)} {g : WrittenSignature} {c : Option wr
 type_comes {paths = paths} {g = g} {c = c} {s = s} {u = u} {b = b} {l = l} {es = es} h n i m q =
     let j = subst (λ (w : Scope). IsOwnBegun paths g true c w (Ok b)) h i in
     let is = q ∙ ap (λ (k : List ℕ). u.entries ++ entries.FunctionType (record { identity = k; place = g.name.place; contract = b.contract }) ∷ []) n in
-    λ p. record { answers = subst (λ (xs : List Entry). ItemTells paths s u (items.FunctionType p g c) (state xs u.functions u.lemmas) (record b.standing.scope { locals = l })) (sym is) (without_its m (told.ItemTells.function_type j.answers)) }
+    λ p. record { answers = subst (λ (xs : List Entry). ItemTells paths s u (items.FunctionType p g c) (state xs u.functions u.lemmas) (record b.standing.scope { locals = l })) (sym is) (without_its b.standing.scope m (told.ItemTells.function_type j.answers)) }
 
 -- ---- prototypes
 pub prototype_memory : {paths : List (List ℕ)} {g : WrittenSignature} {k : Option Claim} {c : Option written.Contract} {s t : Scope} {u v : Told} {res : Result (Unit {0}) RuleFault} → res ≡ Err faults.Memory → PrototypeComes paths g k c s u res t v
@@ -97,8 +97,8 @@ prototype_stops {paths = paths} {g = g} {c = c} e h i q =
     let j = subst (λ (w : Scope). IsOwnBegun paths g false c w (Err e)) h i in
     record { answers = failing _ _ _ e (λ r f. told.ItemStops.prototype f) j.answers q }
 
-pub prototype_comes : {paths : List (List ℕ)} {g : WrittenSignature} {k : Option Claim} {c : Option written.Contract} {s t w : Scope} {u : Told} {n : List ℕ} {m r : ℕ} {d : Option Claimed} {b : code.Begun} {x : Kept} {fs : Table} {es : List Entry} → w ≡ s → n ≡ constructor_identity s paths g.name → m ≡ function_number s g.name → d ≡ claimed_of s k → IsOwnBegun paths g false c w (Ok b) → r ≡ length u.entries → IsKept r (standing_of b.standing) x → t ≡ without_locals b.standing.scope → fs ≡ noted m x u.functions → es ≡ u.entries ++ entries.Prototype (record { identity = n; place = g.name.place; claim = d; contract = b.contract }) ∷ [] → PrototypeComes paths g k c s u (Ok tt) t (record { entries = es; functions = fs; lemmas = u.lemmas })
-prototype_comes {paths = paths} {g = g} {k = k} {c = c} {s = s} {t = t} {u = u} {d = d} {b = b} {x = x} {fs = fs} {es = es} h n m a i r j w f q =
+pub prototype_comes : {paths : List (List ℕ)} {g : WrittenSignature} {k : Option Claim} {c : Option written.Contract} {s t w : Scope} {u : Told} {n : List ℕ} {m r : ℕ} {d : Option Claimed} {b : code.Begun} (x : Kept) {fs : Table} {es : List Entry} → w ≡ s → n ≡ constructor_identity s paths g.name → m ≡ function_number s g.name → d ≡ claimed_of s k → IsOwnBegun paths g false c w (Ok b) → r ≡ length u.entries → IsKept r (standing_of b.standing) x → t ≡ without_locals b.standing.scope → fs ≡ noted m x u.functions → es ≡ u.entries ++ entries.Prototype (record { identity = n; place = g.name.place; claim = d; contract = b.contract }) ∷ [] → PrototypeComes paths g k c s u (Ok tt) t (record { entries = es; functions = fs; lemmas = u.lemmas })
+prototype_comes {paths = paths} {g = g} {k = k} {c = c} {s = s} {t = t} {u = u} {d = d} {b = b} x {fs = fs} {es = es} h n m a i r j w f q =
     let own = subst (λ (w : Scope). IsOwnBegun paths g false c w (Ok b)) h i in
     let is_kept = subst (λ (e : ℕ). IsKept e (standing_of b.standing) x) r j in
     let is = q ∙ ap (λ (y : List ℕ). u.entries ++ entries.Prototype (record { identity = y; place = g.name.place; claim = d; contract = b.contract }) ∷ []) n ∙ ap (λ (y : Option Claimed). u.entries ++ entries.Prototype (record { identity = constructor_identity s paths g.name; place = g.name.place; claim = y; contract = b.contract }) ∷ []) a in
@@ -116,13 +116,13 @@ beginning_stops {paths = paths} {g = g} {c = c} {o = o} e z h i q =
     record { answers = failing _ _ _ e (λ r f. told.ItemStops.function_beginning f) j.answers q }
 
 -- what a definition begins with, where what was kept of its prototype is taken
-begins : {paths : List (List ℕ)} {g : WrittenSignature} {c : Option written.Contract} {s w z : Scope} {fs : Table} {o : Option Kept} {m : ℕ} {b : code.Begun} → z ≡ s → w ≡ z → m ≡ function_number s g.name → o ≡ taken m fs → IsDefinitionBegun paths g c o w (Ok b) → IsDefinitionBegun paths g c (taken (function_number s g.name) fs) s (Ok b)
-begins {paths = paths} {g = g} {c = c} {s = s} {fs = fs} {o = o} {b = b} z h m k i =
+begins : {paths : List (List ℕ)} {g : WrittenSignature} {c : Option written.Contract} {s w z : Scope} (fs : Table) {o : Option Kept} {m : ℕ} {b : code.Begun} → z ≡ s → w ≡ z → m ≡ function_number s g.name → o ≡ taken m fs → IsDefinitionBegun paths g c o w (Ok b) → IsDefinitionBegun paths g c (taken (function_number s g.name) fs) s (Ok b)
+begins {paths = paths} {g = g} {c = c} {s = s} fs {o = o} {b = b} z h m k i =
     subst (λ (p : Option Kept). IsDefinitionBegun paths g c p s (Ok b)) (k ∙ ap (λ (y : ℕ). taken y fs) m) (subst (λ (w : Scope). IsDefinitionBegun paths g c o w (Ok b)) (h ∙ z) i)
 
 pub body_stops : {paths : List (List ℕ)} {g : WrittenSignature} {k : Option Claim} {c : Option written.Contract} {x : Body} {s t w z : Scope} {u v : Told} {o : Option Kept} {m n : ℕ} {b : code.Begun} {res : Result (Unit {0}) RuleFault} (e : RuleFault) → z ≡ s → w ≡ z → m ≡ function_number s g.name → o ≡ taken m u.functions → IsDefinitionBegun paths g c o w (Ok b) → n ≡ length (listed g.parameters) → IsBodyTold paths n x.statements (standing_of b.standing) (Err e) → res ≡ Err e → DefinitionComes paths g k c x s u res t v
 body_stops {paths = paths} {g = g} {c = c} {x = x} {u = u} {b = b} e z h m o i n j q =
-    let own = begins {fs = u.functions} z h m o i in
+    let own = begins u.functions z h m o i in
     let body = subst (λ (y : ℕ). IsBodyTold paths y x.statements (standing_of b.standing) (Err e)) n j in
     record { answers = failing _ _ _ e (λ r f. told.ItemStops.function_body own.answers f) body.answers q }
 
@@ -132,7 +132,7 @@ entry i g d p b ns y = entries.Function (record { identity = i; place = g.name.p
 
 pub definition_comes : {paths : List (List ℕ)} {g : WrittenSignature} {k : Option Claim} {c : Option written.Contract} {x : Body} {s w z : Scope} {u : Told} {i : List ℕ} {m n : ℕ} {d : Option Claimed} {ns : List ℕ} {o : Option Kept} {p : Option ℕ} {b : code.Begun} {y : BodyTold} {l : Locals} {fs : Table} {es : List Entry} → i ≡ constructor_identity s paths g.name → m ≡ function_number s g.name → d ≡ claimed_of s k → z ≡ s → ns ≡ (function_counted s g x).declared → o ≡ taken m u.functions → fs ≡ without m u.functions → p ≡ entry_of o → w ≡ z → IsDefinitionBegun paths g c o w (Ok b) → n ≡ length (listed g.parameters) → IsBodyTold paths n x.statements (standing_of b.standing) (Ok y) → l ≡ no_locals → es ≡ u.entries ++ entries.Function (record { identity = i; place = g.name.place; claim = d; prototype = p; contract = b.contract; numbers = ns; annotated = y.annotated }) ∷ [] → DefinitionComes paths g k c x s u (Ok tt) (record y.scope { locals = l }) (record { entries = es; functions = fs; lemmas = u.lemmas })
 definition_comes {paths = paths} {g = g} {k = k} {c = c} {x = x} {s = s} {u = u} {i = i} {m = m} {d = d} {ns = ns} {o = o} {p = p} {b = b} {y = y} {l = l} {fs = fs} {es = es} hi hm hd hz hns ho hfs hp hw own n body hl hes =
-    let begun = begins {fs = u.functions} hz hw hm ho own in
+    let begun = begins u.functions hz hw hm ho own in
     let told_so = subst (λ (a : ℕ). IsBodyTold paths a x.statements (standing_of b.standing) (Ok y)) n body in
     let whole = told.ItemTells.function {q = k} begun.answers told_so.answers in
     let of = ho ∙ ap (λ (a : ℕ). taken a u.functions) hm in
@@ -142,4 +142,4 @@ definition_comes {paths = paths} {g = g} {k = k} {c = c} {x = x} {s = s} {u = u}
     ∙ ap (λ (a : List ℕ). entry (constructor_identity s paths g.name) g (claimed_of s k) (entry_of (taken (function_number s g.name) u.functions)) b a y) hns in
     let is = hes ∙ ap (λ (e : Entry). u.entries ++ e ∷ []) same in
     let by_number = hfs ∙ ap (λ (a : ℕ). without a u.functions) hm in
-    record { answers = subst (λ (xs : List Entry). ItemTells paths s u (items.Function g k c x) (state xs fs u.lemmas) (record y.scope { locals = l })) (sym is) (subst (λ (ys : Table). ItemTells paths s u (items.Function g k c x) (state (u.entries ++ function_entry paths g k x s (taken (function_number s g.name) u.functions) (begun_of b) y ∷ []) ys u.lemmas) (record y.scope { locals = l })) (sym by_number) (without_its hl whole)) }
+    record { answers = subst (λ (xs : List Entry). ItemTells paths s u (items.Function g k c x) (state xs fs u.lemmas) (record y.scope { locals = l })) (sym is) (subst (λ (ys : Table). ItemTells paths s u (items.Function g k c x) (state (u.entries ++ function_entry paths g k x s (taken (function_number s g.name) u.functions) (begun_of b) y ∷ []) ys u.lemmas) (record y.scope { locals = l })) (sym by_number) (without_its y.scope hl whole)) }

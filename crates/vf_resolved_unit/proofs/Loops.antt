@@ -36,13 +36,13 @@ reaches_here m paths xs s es fs ms e f g =
     (subst (λ (a : Table). Reaches m paths xs s xs s (record { entries = []; functions = []; lemmas = a })) (sym g) all_left))
 
 -- what is left begins with an item
-at : {m : Meanings} {paths : List (List ℕ)} {xs : List Item} {i : ℕ} {x : Item} {s t : Scope} {u : Told} → slice_get xs i ≡ Some x → Reaches m paths xs s (drop i xs) t u → Reaches m paths xs s (x ∷ drop (i + 1) xs) t u
-at {m = m} {paths = paths} {xs = xs} {i = i} {x = x} {s = s} {t = t} {u = u} h r = subst (λ (ys : List Item). Reaches m paths xs s ys t u) (left_at xs i x h) r
+at : {m : Meanings} {paths : List (List ℕ)} {xs : List Item} (i : ℕ) {x : Item} {s t : Scope} {u : Told} → slice_get xs i ≡ Some x → Reaches m paths xs s (drop i xs) t u → Reaches m paths xs s (x ∷ drop (i + 1) xs) t u
+at {m = m} {paths = paths} {xs = xs} i {x = x} {s = s} {t = t} {u = u} h r = subst (λ (ys : List Item). Reaches m paths xs s ys t u) (left_at xs i x h) r
 
 -- one more item
 pub items_more : (m : Meanings) (paths : List (List ℕ)) (xs : List Item) (i : ℕ) (x : Item) (s t a b : Scope) (u v : Told) → slice_get xs i ≡ Some x → Follows (WalksItem m x t) (Ok tt) a → Comes paths x a u (Ok tt) b v → Reaches m paths xs s (drop i xs) t u → Reaches m paths xs s (drop (i + 1) xs) b v
 items_more m paths xs i x s t a b u v h step item r =
-    let q = at {i = i} h r in
+    let q = at i h r in
     record { tells = λ z w k. q.tells z w (units.more (ended step) item.answers k); stops = λ e k. q.stops e (units.later (ended step) item.answers k) }
 
 -- the walk refuses an item
@@ -51,12 +51,12 @@ walked (faults.Refused r) (walking.to_refusal h) q = q.stops r (units.declared h
 walked faults.Memory h q = tt
 
 pub items_walk : (m : Meanings) (paths : List (List ℕ)) (xs : List Item) (i : ℕ) (x : Item) (s t a z : Scope) (u : Told) (e : RuleFault) (res : Result (List Entry) RuleFault) → slice_get xs i ≡ Some x → Follows (WalksItem m x t) (Err e) a → Reaches m paths xs s (drop i xs) t u → res ≡ Err e → AreTold m paths xs s res z
-items_walk m paths xs i x s t a z u e res h step r q = record { answers = failing _ _ _ e (λ y k. k) (walked e step (at {i = i} h r)) q }
+items_walk m paths xs i x s t a z u e res h step r q = record { answers = failing _ _ _ e (λ y k. k) (walked e step (at i h r)) q }
 
 -- an item is refused
 pub items_stop : (m : Meanings) (paths : List (List ℕ)) (xs : List Item) (i : ℕ) (x : Item) (s t a b z : Scope) (u v : Told) (e : RuleFault) (res : Result (List Entry) RuleFault) → slice_get xs i ≡ Some x → Follows (WalksItem m x t) (Ok tt) a → Comes paths x a u (Err e) b v → Reaches m paths xs s (drop i xs) t u → res ≡ Err e → AreTold m paths xs s res z
 items_stop m paths xs i x s t a b z u v e res h step item r q =
-    let l = at {i = i} h r in
+    let l = at i h r in
     record { answers = failing _ _ _ e (λ y k. l.stops y (units.resolved (ended step) k)) item.answers q }
 
 all_told : {m : Meanings} {paths : List (List ℕ)} {xs : List Item} {s t : Scope} {u : Told} → Reaches m paths xs s [] t u → AreTold m paths xs s (Ok u.entries) t

@@ -30,7 +30,7 @@ pub struct Begun {
 }
 
 /// The type that a written type is, and `void` where it is none.
-fn type_in(found: Result<CType, Refusal>) -> CType
+pub fn type_in(found: Result<CType, Refusal>) -> CType
     ensures { result ≡ type_in found }
 {
     match found {

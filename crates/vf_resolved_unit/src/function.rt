@@ -3,18 +3,17 @@
 ghost use Rattle.std.specs.Prelude.{◌≡◌, false, true, length, IfOk};
 ghost use Rattle.vf_contracts.specs.Comes as contracts;
 ghost use Rattle.vf_functions.specs.Definitions.{given};
-ghost use Rattle.vf_lower.specs.Statements.{type_in};
 ghost use Rattle.vf_walk.specs.Items.{listed, without_locals};
 ghost use Rattle.vf_walk.specs.Walking.{Follows};
 ghost use Rattle.vf_resolved_unit.specs.Answers.{DefinitionComes, IsDefinitionBegun, IsOwnBegun, PrototypeComes, TypeComes, told_of};
 ghost use Rattle.vf_resolved_unit.specs.Items.{claimed_of, function_number, owner_of};
 
-use crate::beginning::{Begun, begun, put_parameters};
+use crate::beginning::{Begun, begun, put_parameters, type_in};
 use crate::entry::{Claimed, Entry, Function, FunctionType, Prototype};
 use crate::kept::{Kept, entry_of, keep, kept_from, standing_with, take};
 use crate::unit::ResolvedUnit;
 use std::alloc::Global;
-use vf_base::{Memory, Refusal, RuleFault, Text};
+use vf_base::{RuleFault, Text};
 use vf_claims::claimed_type;
 use vf_declared::ctype::CType;
 use vf_declared::declaration::Meaning;
@@ -30,16 +29,6 @@ use vf_syntax::contract::{Claim, Contract};
 use vf_syntax::item::{Body, Parameters, Signature};
 use vf_syntax::written::{Name, ResultType};
 use vf_typing::written_type;
-
-/// The type that a written type is, and `void` where it is none.
-fn type_in(found: Result<CType, Refusal>) -> CType
-    ensures { result ≡ type_in found }
-{
-    match found {
-        Ok(ctype) => ctype,
-        Err(_) => CType::Void,
-    }
-}
 
 /// The type of what a function gives.
 fn given(scope: &Scope, written: &ResultType) -> CType

@@ -1,6 +1,7 @@
 -- Chunks that take in younger ones.
-use Rattle.std.proofs.Common.{◌≡◌, refl, sym, subst, ap, ◌∙◌, Result, Ok, Err, Bool, true, false, cond, List, [], ◌∷◌, ◌++◌}
+use Rattle.std.proofs.Common.{◌≡◌, ◌<◌, ◌≤◌, length, get_or, arith, refl, sym, subst, ap, ◌∙◌, Result, Ok, Err, Bool, true, false, cond, List, [], ◌∷◌, ◌++◌}
 use Rattle.std.specs.Prelude.{Option, Some, None, slice_get}
+use Rattle.std.proofs.lemmas.Option.{slice_get_read}
 use Rattle.vf_base.specs.declared.place.Place.{Place}
 use Rattle.vf_base.specs.declared.refusal.Refusal.{Refusal}
 use Rattle.vf_base.specs.declared.refusal.RuleFault.{RuleFault}
@@ -27,34 +28,39 @@ use Rattle.vf_take.specs.Fits.{tries}
 use Rattle.vf_take.specs.Merges.{joins, merges, gathers_if, gathers_one, gathers, begins, starts, alone, tries_gathered, attempts_if, attempts}
 
 -- ---- which chunk takes in others
-module _ (place : Place) (path : List Literal) (a : Option Term) (b : Option Pattern) (s t : Seen) where
-  pub begins_equal : (x y : Term) (p : Pattern) (r : Result Bool Refusal) → Some x ≡ a → b ≡ Some p → p ≡ patterns.Is y → Follows (equal place path x y) s t r → Follows (begins place path a b) s t r
-  unfolding begins
-  begins_equal x y p r e f g h = subst (λ z. Follows (begins place path z b) s t r) e (subst (λ z. Follows (begins place path (Some x) z) s t r) (sym (f ∙ ap Some g)) h)
+module _ (place : Place) (path : List Literal) (a : Option Term) (ps : List Pattern) (s t : Seen) where
+  -- the first pattern
+  first_is : (p q : Pattern) → 0 < length ps → p ≡ get_or ps 0 p → p ≡ q → Some q ≡ slice_get ps 0
+  first_is p q low is e = sym (slice_get_read ps (length ps) 0 p refl low is ∙ ap Some e)
 
-  pub begins_fail : (x y : Term) (p : Pattern) (f : RuleFault) → Some x ≡ a → b ≡ Some p → p ≡ patterns.Is y → Blames (equal place path x y) s t f → Blames (begins place path a b) s t f
+  pub begins_equal : (x y : Term) (p : Pattern) (r : Result Bool Refusal) → 0 < length ps → Some x ≡ a → p ≡ get_or ps 0 p → p ≡ patterns.Is y → Follows (equal place path x y) s t r → Follows (begins place path a (slice_get ps 0)) s t r
   unfolding begins
-  begins_fail x y p r e f g h = subst (λ z. Blames (begins place path z b) s t r) e (subst (λ z. Blames (begins place path (Some x) z) s t r) (sym (f ∙ ap Some g)) h)
+  begins_equal x y p r low e f g h = subst (λ z. Follows (begins place path z (slice_get ps 0)) s t r) e (subst (λ z. Follows (begins place path (Some x) z) s t r) (first_is p (patterns.Is y) low f g) h)
 
-  pub begins_named : (x : Term) (p : Pattern) → Some x ≡ a → b ≡ Some p → p ≡ patterns.Name → Follows (begins place path a b) s s (Ok true)
+  pub begins_fail : (x y : Term) (p : Pattern) (f : RuleFault) → 0 < length ps → Some x ≡ a → p ≡ get_or ps 0 p → p ≡ patterns.Is y → Blames (equal place path x y) s t f → Blames (begins place path a (slice_get ps 0)) s t f
   unfolding begins
-  begins_named x p e f g = subst (λ z. Follows (begins place path z b) s s (Ok true)) e (subst (λ z. Follows (begins place path (Some x) z) s s (Ok true)) (sym (f ∙ ap Some g)) (follows_done (Ok true) (Ok true) s s refl refl))
+  begins_fail x y p r low e f g h = subst (λ z. Blames (begins place path z (slice_get ps 0)) s t r) e (subst (λ z. Blames (begins place path (Some x) z) s t r) (first_is p (patterns.Is y) low f g) h)
 
-  pub begins_wild : (x : Term) (p : Pattern) → Some x ≡ a → b ≡ Some p → p ≡ patterns.Wild → Follows (begins place path a b) s s (Ok true)
+  pub begins_named : (x : Term) (p : Pattern) → 0 < length ps → Some x ≡ a → p ≡ get_or ps 0 p → p ≡ patterns.Name → Follows (begins place path a (slice_get ps 0)) s s (Ok true)
   unfolding begins
-  begins_wild x p e f g = subst (λ z. Follows (begins place path z b) s s (Ok true)) e (subst (λ z. Follows (begins place path (Some x) z) s s (Ok true)) (sym (f ∙ ap Some g)) (follows_done (Ok true) (Ok true) s s refl refl))
+  begins_named x p low e f g = subst (λ z. Follows (begins place path z (slice_get ps 0)) s s (Ok true)) e (subst (λ z. Follows (begins place path (Some x) z) s s (Ok true)) (first_is p patterns.Name low f g) (follows_done (Ok true) (Ok true) s s refl refl))
 
-  pub begins_lacks : None ≡ a → Follows (begins place path a b) s s (Ok false)
+  pub begins_wild : (x : Term) (p : Pattern) → 0 < length ps → Some x ≡ a → p ≡ get_or ps 0 p → p ≡ patterns.Wild → Follows (begins place path a (slice_get ps 0)) s s (Ok true)
   unfolding begins
-  begins_lacks e = subst (λ z. Follows (begins place path z b) s s (Ok false)) e (follows_done (Ok false) (Ok false) s s refl refl)
+  begins_wild x p low e f g = subst (λ z. Follows (begins place path z (slice_get ps 0)) s s (Ok true)) e (subst (λ z. Follows (begins place path (Some x) z) s s (Ok true)) (first_is p patterns.Wild low f g) (follows_done (Ok true) (Ok true) s s refl refl))
 
-  pub begins_unasked : b ≡ None → Follows (begins place path a b) s s (Ok false)
+  pub begins_lacks : None ≡ a → Follows (begins place path a (slice_get ps 0)) s s (Ok false)
   unfolding begins
-  begins_unasked e = subst (λ z. Follows (begins place path a z) s s (Ok false)) (sym e) (by a)
+  begins_lacks e = subst (λ z. Follows (begins place path z (slice_get ps 0)) s s (Ok false)) e (follows_done (Ok false) (Ok false) s s refl refl)
+
+  pub begins_unasked : length ps ≤ 0 → Follows (begins place path a (slice_get ps 0)) s s (Ok false)
+  unfolding begins
+  begins_unasked none = by a ps none
     where
-      by : (a : Option Term) → Follows (begins place path a None) s s (Ok false)
-      by (Some x) = follows_done (Ok false) (Ok false) s s refl refl
-      by None = follows_done (Ok false) (Ok false) s s refl refl
+      by : (a : Option Term) (qs : List Pattern) → length qs ≤ 0 → Follows (begins place path a (slice_get qs 0)) s s (Ok false)
+      by (Some x) [] high = follows_done (Ok false) (Ok false) s s refl refl
+      by None [] high = follows_done (Ok false) (Ok false) s s refl refl
+      by a (q ∷ qs) high = absurd (omega (arith, high))
 
 pub ruleset beginning = (begins_equal, begins_fail, begins_named, begins_wild, begins_lacks, begins_unasked, grew_not)
 

@@ -1,6 +1,7 @@
 pub mod Results
 pub mod Shares
 pub mod Arguments
+pub mod Known
 pub mod Positions
 pub mod Finding
 pub mod Cells

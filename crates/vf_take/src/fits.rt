@@ -31,6 +31,7 @@ pub fn refused(rule: Rule, place: Place) -> RuleFault
 }
 
 /// The term of the argument at a place, if it is there and known.
+#[tactic(auto, using(crate::proofs::Known::knowing))]
 pub fn known_at(arguments: &[Argument], index: usize) -> Option<&Term>
     requires { ArgumentsCanBeCompared arguments.now }
     ensures value { option_copied result ≡ known_at arguments.now index }
