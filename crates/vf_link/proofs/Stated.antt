@@ -1,9 +1,11 @@
 -- Statements of lines put together.
-use Rattle.std.proofs.Common.{◌≡◌, ℕ, zero, suc, ◌+◌, ◌<◌, List, [], ◌∷◌, ◌++◌, length, take, get_or, refl, sym, ap, ◌∙◌}
+use Rattle.std.proofs.Common.{◌≡◌, ℕ, zero, suc, ◌+◌, ◌<◌, List, [], ◌∷◌, ◌++◌, length, take, get_or, Option, Some, refl, sym, ap, subst, ◌∙◌, arith}
+use Rattle.std.specs.Prelude.{IfSome, slice_get}
 use Rattle.std.proofs.lemmas.List.{append-nil, append_assoc, map-append, take_more}
 use Rattle.std.proofs.lemmas.List.Elements.{filter_map-append}
 use Rattle.vf_manifest.specs.declared.line.Line.{Line}
 use Rattle.vf_link.specs.declared.statement.Topic.{Topic}
+use Rattle.vf_link.proofs.Lists.{get_at, got_is}
 use Rattle.vf_link.specs.Statements.{Statement}
 use Rattle.vf_link.specs.Statements.{all_lines, statement, statements, subjects, contents}
 
@@ -59,3 +61,23 @@ pub contents_manifest : (topic : Topic) (base old new : List (List ℕ)) (ms : L
 contents_manifest topic base old new ms i m within is h more =
     more ∙ ap (λ xs. xs ++ contents (statements topic m)) h ∙ append_assoc base (contents (statements topic (all_lines (take i ms)))) (contents (statements topic m))
     ∙ ap (λ xs. base ++ xs) (sym (contents_more topic (all_lines (take i ms)) m) ∙ ap (λ xs. contents (statements topic xs)) (sym (lines_more ms i m within is)))
+
+-- ---- one more line, which is told by its place
+
+pub subjects_place : (topic : Topic) (base old new : List (List ℕ)) (ls : List Line) (i : ℕ) → i < length ls → old ≡ base ++ subjects (statements topic (take i ls))
+    → IfSome (slice_get ls i) (λ l. new ≡ old ++ subjects (statements topic (l ∷ []))) → new ≡ base ++ subjects (statements topic (take (i + 1) ls))
+subjects_place topic base old new [] i within h more = absurd (let none : ⊥ = omega arith in none)
+subjects_place topic base old new (y ∷ ys) i within h more =
+    let x = get_or (y ∷ ys) i y in
+    let there : slice_get (y ∷ ys) i ≡ Some x = get_at (y ∷ ys) i y within in
+    subjects_line topic base old new (y ∷ ys) i x within (sym (got_is (y ∷ ys) i x x there)) h
+    (subst (λ (o : Option Line). IfSome o (λ l. new ≡ old ++ subjects (statements topic (l ∷ [])))) there more)
+
+pub contents_place : (topic : Topic) (base old new : List (List ℕ)) (ls : List Line) (i : ℕ) → i < length ls → old ≡ base ++ contents (statements topic (take i ls))
+    → IfSome (slice_get ls i) (λ l. new ≡ old ++ contents (statements topic (l ∷ []))) → new ≡ base ++ contents (statements topic (take (i + 1) ls))
+contents_place topic base old new [] i within h more = absurd (let none : ⊥ = omega arith in none)
+contents_place topic base old new (y ∷ ys) i within h more =
+    let x = get_or (y ∷ ys) i y in
+    let there : slice_get (y ∷ ys) i ≡ Some x = get_at (y ∷ ys) i y within in
+    contents_line topic base old new (y ∷ ys) i x within (sym (got_is (y ∷ ys) i x x there)) h
+    (subst (λ (o : Option Line). IfSome o (λ l. new ≡ old ++ contents (statements topic (l ∷ [])))) there more)

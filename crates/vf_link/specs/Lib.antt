@@ -1,4 +1,3 @@
-pub mod Pieces
 pub mod Statements
 pub mod Least
 pub mod Refusals

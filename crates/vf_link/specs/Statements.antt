@@ -1,11 +1,12 @@
 -- What the lines of manifests say, by topic.
-use Rattle.std.specs.Prelude.{ℕ, ◌==◌, Bool, not, List, Option, Some, None, flat_map, filter_map, map, take_while, codes, false}
+use Rattle.std.specs.Prelude.{ℕ, ◌==◌, Bool, not, List, Option, Some, None, flat_map, filter_map, map, take_while, codes, true, false, if◌then◌else◌}
 use Rattle.std.specs.Str.{bytes_eq}
 use Rattle.std.specs.List.{position_or_len}
 use Rattle.vf_manifest.specs.declared.line.Line.{Line}
 use Rattle.vf_manifest.specs.declared.line.Line.TheVariants as lines
-use Rattle.vf_manifest.specs.Words.{identity_text}
-use Rattle.vf_manifest.specs.Lines.{two}
+use Rattle.vf_manifest.specs.declared.kind.Kind.{Kind}
+use Rattle.vf_manifest.specs.declared.kind.Kind.TheVariants as kinds
+use Rattle.vf_manifest.specs.Lines.{kind, subject, content}
 use Rattle.vf_link.specs.declared.statement.Topic.{Topic}
 use Rattle.vf_link.specs.declared.statement.Topic.TheVariants.{Bodies, Calls, Instances, Provided, Required, Structs, Uses}
 
@@ -18,23 +19,27 @@ pub record Statement : Type 0 where
 abbrev pub all_lines : List (List Line) → List Line
 all_lines manifests = flat_map (λ lines. lines) manifests
 
--- what a line says of what, where it speaks of the topic: in which file the body of a predicate or a struct, or the instance of a family
--- at a function stands; which lemma a lemma calls; the signature of what is provided or required; the digest of a header
+-- the lines of this kind speak of a topic: in which file the body of a predicate or a struct, or the instance of a family at a function
+-- stands; which lemma a lemma calls; the signature of what is provided or required; the digest of a header
+abbrev pub speaks : Topic → Kind → Bool
+speaks Bodies kinds.Body = true
+speaks Bodies k = false
+speaks Calls kinds.Calls = true
+speaks Calls k = false
+speaks Instances kinds.Instance = true
+speaks Instances k = false
+speaks Provided kinds.Provides = true
+speaks Provided k = false
+speaks Required kinds.Requires = true
+speaks Required k = false
+speaks Structs kinds.Struct = true
+speaks Structs k = false
+speaks Uses kinds.Uses = true
+speaks Uses k = false
+
+-- what a line says of what, where it speaks of the topic
 abbrev pub statement : Topic → Line → Option Statement
-statement Bodies (lines.Body predicate file) = Some (record { subject = identity_text predicate; content = file })
-statement Bodies l = None
-statement Calls (lines.Calls caller callee) = Some (record { subject = identity_text caller; content = identity_text callee })
-statement Calls l = None
-statement Instances (lines.Instance family function file) = Some (record { subject = two (identity_text family) (identity_text function); content = file })
-statement Instances l = None
-statement Provided (lines.Provides provided signature) = Some (record { subject = identity_text provided; content = signature })
-statement Provided l = None
-statement Required (lines.Requires required signature) = Some (record { subject = identity_text required; content = signature })
-statement Required l = None
-statement Structs (lines.Struct tag file) = Some (record { subject = identity_text tag; content = file })
-statement Structs l = None
-statement Uses (lines.Uses header digest) = Some (record { subject = header; content = digest })
-statement Uses l = None
+statement topic l = if speaks topic (kind l) then Some (record { subject = subject l; content = content l }) else None
 
 -- all that some lines say on a topic
 abbrev pub statements : Topic → List Line → List Statement

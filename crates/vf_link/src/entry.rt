@@ -1,14 +1,14 @@
 //! Which manifest provides main.
 
-ghost use Rattle.std.specs.Prelude.{◌≡◌, ◌+◌, ◌<◌, [], IfOk, OnOk, IfErr, IfSome, is_some, All, count_by, length, slice_index_or};
+ghost use Rattle.std.specs.Prelude.{◌≡◌, ◌+◌, ◌<◌, [], IfOk, OnOk, IfErr, Some, All, count_by, length, slice_get, slice_index_or};
+ghost use Rattle.std.specs.Option.{option_map};
 ghost use Rattle.vf_link.specs.Statements.{all_lines, provides_main};
-ghost use Rattle.vf_link.specs.Linking.{IsMain, ProvidesMain, IsRefusal, IfRefused, HasOneMain, mains};
+ghost use Rattle.vf_link.specs.Linking.{IsMain, IsRefusal, IfRefused, HasOneMain, mains};
 
 use crate::refusal::{LinkFault, LinkRefusal};
-use crate::statement::identity_of;
 use std::alloc::Global;
 use vf_base::{Memory, Text};
-use vf_manifest::{Identity, Line, Manifest};
+use vf_manifest::Manifest;
 
 /// The function with which a program begins.
 #[derive(Debug, Drop)]
@@ -19,14 +19,14 @@ pub struct Entry {
     pub identity: Text,
 }
 
-/// The identity of the main that a line provides.
-fn main_of(line: &Line) -> Option<&Identity>
-    ensures found { IfSome result (λ i. ProvidesMain line.now i.now) }
-    ensures is { is_some result ≡ provides_main line.now }
+/// Whether the line at an index provides a main.
+fn provides_main(manifest: &Manifest, at: usize) -> bool
+    requires { at < length manifest.now }
+    ensures { option_map provides_main (slice_get manifest.now at) ≡ Some result }
 {
-    match line {
-        Line::Provides { provided, .. } if provided.name() == b"main".as_slice() => Some(provided),
-        _ => None,
+    match manifest.provided_name(at) {
+        Some(name) => name == b"main".as_slice(),
+        None => false,
     }
 }
 
@@ -43,10 +43,10 @@ fn push_mains(
     ensures each { OnOk result (All (λ e. IsMain manifests.now e.manifest e.identity) mains.old.items
         → All (λ e. IsMain manifests.now e.manifest e.identity) mains.new.items) }
 {
-    let lines = manifests[manifest].as_slice();
-    for line in lines {
-        if let Some(identity) = main_of(line) {
-            let identity = identity_of(alloc, identity)?;
+    let lines = &manifests[manifest];
+    for at in 0..lines.len() {
+        if provides_main(lines, at) {
+            let identity = Text::from_bytes(alloc, lines.subject(at))?;
             mains.push(Entry { manifest, identity })?;
         }
     }

@@ -49,7 +49,7 @@ impl<'a> Requirements<'a> {
     {
         let mut statements = stated(alloc, Topic::Provided, manifests)?;
         let provided = statements.subjects.len();
-        statements.push_all(alloc, Topic::Required, manifests)?;
+        statements.push_all(Topic::Required, manifests)?;
         let firsts = firsts(alloc, &statements.subjects, provided)?;
         Ok(Requirements {
             statements,

@@ -1,14 +1,12 @@
 //! What the lines of manifests say, by topic.
 
-ghost use Rattle.std.specs.Prelude.{◌≡◌, ◌∷◌, ◌++◌, IfOk, OnOk, []};
-ghost use Rattle.vf_manifest.specs.Words.{identity_text};
-ghost use Rattle.vf_manifest.specs.Lines.{two};
-ghost use Rattle.vf_link.specs.Statements.{all_lines, statements, subjects, contents};
+ghost use Rattle.std.specs.Prelude.{◌≡◌, ◌<◌, ◌∷◌, ◌++◌, IfOk, IfSome, OnOk, [], length, slice_get};
+ghost use Rattle.vf_link.specs.Statements.{all_lines, statements, speaks, subjects, contents};
 
-use crate::texts::{Piece, Texts};
+use crate::texts::Texts;
 use std::alloc::Global;
-use vf_base::{Memory, Text};
-use vf_manifest::{Identity, Line, Manifest};
+use vf_base::Memory;
+use vf_manifest::{Kind, Manifest};
 
 /// What lines can speak of.
 #[derive(Clone, Copy)]
@@ -29,28 +27,27 @@ pub enum Topic {
     Uses,
 }
 
+/// Whether the lines of this kind speak of a topic.
+fn speaks(topic: Topic, kind: Kind) -> bool
+    ensures { result ≡ speaks topic kind }
+{
+    matches!(
+        (topic, kind),
+        (Topic::Bodies, Kind::Body)
+            | (Topic::Calls, Kind::Calls)
+            | (Topic::Instances, Kind::Instance)
+            | (Topic::Provided, Kind::Provides)
+            | (Topic::Required, Kind::Requires)
+            | (Topic::Structs, Kind::Struct)
+            | (Topic::Uses, Kind::Uses)
+    )
+}
+
 /// Statements, in order: of what they speak, and what they say of it.
 #[derive(Drop)]
 pub struct Statements<'a> {
     pub subjects: Texts<'a>,
     pub contents: Texts<'a>,
-}
-
-/// The text of an identity: path, `#` and name.
-pub fn identity_of(alloc: Global, identity: &Identity) -> Result<Text, Memory>
-    ensures { IfOk result (λ t. t ≡ identity_text identity.now) }
-{
-    Text::from_bytes(alloc, identity.as_bytes())
-}
-
-/// The texts of two identities with a blank between them.
-fn pair_of(alloc: Global, first: &Identity, second: &Identity) -> Result<Text, Memory>
-    ensures { IfOk result (λ t. t ≡ two (identity_text first.now) (identity_text second.now)) }
-{
-    let mut out = identity_of(alloc, first)?;
-    out.push(b' ')?;
-    out.push_bytes(second.as_bytes())?;
-    Ok(out)
 }
 
 impl<'a> Statements<'a> {
@@ -65,107 +62,48 @@ impl<'a> Statements<'a> {
         }
     }
 
-    /// Adds what is said of an identity.
-    fn push_said(&mut self, subject: &'a Identity, content: &'a Text) -> Result<(), Memory>
-        ensures subjects { OnOk result (self.new.subjects ≡ self.old.subjects ++ identity_text subject.now ∷ []) }
-        ensures contents { OnOk result (self.new.contents ≡ self.old.contents ++ content.now ∷ []) }
+    /// Adds what the line at an index says on a topic.
+    fn push_line(
+        &mut self,
+        topic: Topic,
+        manifest: &'a Manifest,
+        at: usize,
+    ) -> Result<(), Memory>
+        requires { at < length manifest.now }
+        ensures subjects { OnOk result (IfSome (slice_get manifest.now at) (λ l. self.new.subjects
+            ≡ self.old.subjects ++ subjects (statements topic (l ∷ [])))) }
+        ensures contents { OnOk result (IfSome (slice_get manifest.now at) (λ l. self.new.contents
+            ≡ self.old.contents ++ contents (statements topic (l ∷ [])))) }
     {
-        self.subjects.push(Piece::Identity(subject))?;
-        self.contents.push(Piece::Lent(content))
-    }
-
-    /// Adds that a lemma calls another one.
-    fn push_call(&mut self, caller: &'a Identity, callee: &'a Identity) -> Result<(), Memory>
-        ensures subjects { OnOk result (self.new.subjects ≡ self.old.subjects ++ identity_text caller.now ∷ []) }
-        ensures contents { OnOk result (self.new.contents ≡ self.old.contents ++ identity_text callee.now ∷ []) }
-    {
-        self.subjects.push(Piece::Identity(caller))?;
-        self.contents.push(Piece::Identity(callee))
-    }
-
-    /// Adds what is said of a text.
-    fn push_told(&mut self, subject: &'a Text, content: &'a Text) -> Result<(), Memory>
-        ensures subjects { OnOk result (self.new.subjects ≡ self.old.subjects ++ subject.now ∷ []) }
-        ensures contents { OnOk result (self.new.contents ≡ self.old.contents ++ content.now ∷ []) }
-    {
-        self.subjects.push(Piece::Lent(subject))?;
-        self.contents.push(Piece::Lent(content))
-    }
-
-    /// Adds what is said of a text that was made.
-    fn push_made(&mut self, subject: Box<Text>, content: &'a Text) -> Result<(), Memory>
-        ensures subjects { OnOk result (self.new.subjects ≡ self.old.subjects ++ subject.value ∷ []) }
-        ensures contents { OnOk result (self.new.contents ≡ self.old.contents ++ content.now ∷ []) }
-    {
-        self.subjects.push(Piece::Made(subject))?;
-        self.contents.push(Piece::Lent(content))
-    }
-
-    /// Adds what a line says on a topic.
-    fn push_line(&mut self, alloc: Global, topic: Topic, line: &'a Line) -> Result<(), Memory>
-        ensures subjects { OnOk result (self.new.subjects
-            ≡ self.old.subjects ++ subjects (statements topic (line.now ∷ []))) }
-        ensures contents { OnOk result (self.new.contents
-            ≡ self.old.contents ++ contents (statements topic (line.now ∷ []))) }
-    {
-        match (topic, line) {
-            (Topic::Bodies, Line::Body { predicate, file }) => self.push_said(predicate, file),
-            (Topic::Calls, Line::Calls { caller, callee }) => self.push_call(caller, callee),
-            (
-                Topic::Instances,
-                Line::Instance {
-                    family,
-                    function,
-                    file,
-                },
-            ) => self.push_made(Box::new(alloc, pair_of(alloc, family, function)?)?, file),
-            (
-                Topic::Provided,
-                Line::Provides {
-                    provided,
-                    signature,
-                },
-            ) => self.push_said(provided, signature),
-            (
-                Topic::Required,
-                Line::Requires {
-                    required,
-                    signature,
-                },
-            ) => self.push_said(required, signature),
-            (Topic::Structs, Line::Struct { tag, file }) => self.push_said(tag, file),
-            (Topic::Uses, Line::Uses { header, digest }) => self.push_told(header, digest),
-            _ => Ok(()),
+        if !speaks(topic, manifest.kind(at)) {
+            return Ok(());
         }
+        self.subjects.push(manifest.subject(at))?;
+        self.contents.push(manifest.content(at))
     }
 
     /// Adds what some lines say on a topic.
-    fn push_lines(&mut self, alloc: Global, topic: Topic, lines: &'a [Line]) -> Result<(), Memory>
+    fn push_lines(&mut self, topic: Topic, manifest: &'a Manifest) -> Result<(), Memory>
         ensures subjects { OnOk result (self.new.subjects
-            ≡ self.old.subjects ++ subjects (statements topic lines.now)) }
+            ≡ self.old.subjects ++ subjects (statements topic manifest.now)) }
         ensures contents { OnOk result (self.new.contents
-            ≡ self.old.contents ++ contents (statements topic lines.now)) }
+            ≡ self.old.contents ++ contents (statements topic manifest.now)) }
     {
-        for line in lines {
-            self.push_line(alloc, topic, line)?;
+        for at in 0..manifest.len() {
+            self.push_line(topic, manifest, at)?;
         }
         Ok(())
     }
 
     /// Adds what the lines of some manifests say on a topic.
-    pub fn push_all(
-        &mut self,
-        alloc: Global,
-        topic: Topic,
-        manifests: &'a [Manifest],
-    ) -> Result<(), Memory>
+    pub fn push_all(&mut self, topic: Topic, manifests: &'a [Manifest]) -> Result<(), Memory>
         ensures subjects { OnOk result (self.new.subjects
             ≡ self.old.subjects ++ subjects (statements topic (all_lines manifests.now))) }
         ensures contents { OnOk result (self.new.contents
             ≡ self.old.contents ++ contents (statements topic (all_lines manifests.now))) }
     {
         for manifest in manifests {
-            self.push_lines(alloc, topic, manifest.as_slice())?;
+            self.push_lines(topic, manifest)?;
         }
         Ok(())
     }
@@ -181,6 +119,6 @@ pub fn stated<'a>(
     ensures contents { IfOk result (λ s. s.contents ≡ contents (statements topic (all_lines manifests.now))) }
 {
     let mut statements = Statements::new(alloc);
-    statements.push_all(alloc, topic, manifests)?;
+    statements.push_all(topic, manifests)?;
     Ok(statements)
 }

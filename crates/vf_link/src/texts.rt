@@ -1,46 +1,23 @@
-//! Lists of texts, most of which are lent.
+//! Lists of texts that are lent.
 
 ghost use Rattle.std.specs.Prelude.{◌≡◌, ◌<◌, ◌∷◌, ◌++◌, [], length, get_or, OnOk};
-ghost use Rattle.vf_link.specs.Pieces.{piece_text};
 
 use std::alloc::Global;
 use std::marker::Model;
-use vf_base::{Memory, Text};
-use vf_manifest::Identity;
+use vf_base::Memory;
 
-/// Where a text stands: in an identity or a text that is lent, or in one that was made.
-#[derive(Drop)]
-pub enum Piece<'a> {
-    Identity(&'a Identity),
-    Lent(&'a Text),
-    Made(Box<Text>),
-}
-
-impl<'a> Piece<'a> {
-    fn as_bytes(&self) -> &[u8]
-        ensures { result.now ≡ piece_text self.now }
-    {
-        match self {
-            Piece::Identity(identity) => identity.as_bytes(),
-            Piece::Lent(text) => text.as_bytes(),
-            Piece::Made(text) => text.as_bytes(),
-        }
-    }
-}
-
-/// Texts, in order, which contracts see as the list of them.
+/// Texts, in order, which contracts see as the list of them. All are lent.
 #[derive(Drop)]
 pub struct Texts<'a> {
-    pieces: Vec<Piece<'a>>,
+    texts: Vec<&'a [u8]>,
 }
 
 impl<'a> Model for Texts<'a> {
     ghost use Rattle.std.specs.Prelude.{ℕ, List, map};
-    ghost use Rattle.vf_link.specs.Pieces.{piece_text};
 
     ghost Value = { List (List ℕ) };
 
-    ghost view = { λ t. map piece_text t.pieces.items };
+    ghost view = { λ t. map (λ text. text.now) t.texts.items };
 }
 
 impl<'a> Texts<'a> {
@@ -49,7 +26,7 @@ impl<'a> Texts<'a> {
         ensures { result ≡ [] }
     {
         Texts {
-            pieces: Vec::new(alloc),
+            texts: Vec::new(alloc),
         }
     }
 
@@ -57,7 +34,7 @@ impl<'a> Texts<'a> {
     pub fn len(&self) -> usize
         ensures { result ≡ length self.now }
     {
-        self.pieces.len()
+        self.texts.len()
     }
 
     /// The text at an index, counted from 0.
@@ -65,14 +42,14 @@ impl<'a> Texts<'a> {
         requires { at < length self.now }
         ensures { result.now ≡ get_or self.now at [] }
     {
-        self.pieces[at].as_bytes()
+        self.texts[at]
     }
 
     /// Adds a text.
-    pub fn push(&mut self, piece: Piece<'a>) -> Result<(), Memory>
-        ensures { OnOk result (self.new ≡ self.old ++ piece_text piece.entry ∷ []) }
+    pub fn push(&mut self, text: &'a [u8]) -> Result<(), Memory>
+        ensures { OnOk result (self.new ≡ self.old ++ text.now ∷ []) }
     {
-        self.pieces.push(piece)?;
+        self.texts.push(text)?;
         Ok(())
     }
 
@@ -80,7 +57,7 @@ impl<'a> Texts<'a> {
     pub fn append(&mut self, texts: &mut Texts<'a>) -> Result<(), Memory>
         ensures { OnOk result (self.new ≡ self.old ++ texts.old) }
     {
-        self.pieces.append(&mut texts.pieces)?;
+        self.texts.append(&mut texts.texts)?;
         Ok(())
     }
 }

@@ -6,4 +6,6 @@ pub mod SortLaws
 pub mod OrderLaws
 pub mod Trees
 pub mod Naming
+pub mod Keeping
 pub mod Plain
+pub mod Walking

@@ -3,6 +3,7 @@ pub mod Cuts
 pub mod Words
 pub mod Signatures
 pub mod Lines
+pub mod Kept
 pub mod Manifests
 pub mod Reading
 pub mod Trees

@@ -1,5 +1,7 @@
 -- The lines of manifests, and how they are spelled.
-use Rattle.std.specs.Prelude.{◌≡◌, ℕ, Bool, ◌&&◌, List, [], ◌∷◌, ◌++◌, codes}
+use Rattle.std.specs.Prelude.{◌≡◌, ℕ, Bool, ◌&&◌, List, [], ◌∷◌, ◌++◌, codes, Option, Some, None}
+use Rattle.vf_manifest.specs.declared.kind.Kind.{Kind}
+use Rattle.vf_manifest.specs.declared.kind.Kind.TheVariants as kinds
 use Rattle.vf_manifest.specs.declared.line.Line.{Line}
 use Rattle.vf_manifest.specs.declared.line.Line.TheVariants.{Body, Calls, Claims, Instance, Provides, Requires, Struct, Uses}
 use Rattle.vf_manifest.specs.declared.line.Version.{Version}
@@ -68,3 +70,49 @@ Untold (Uses header digest) = Unit {0}
 abbrev pub IsOf : Version → Line → Type 0
 IsOf First l = Untold l
 IsOf Second l = Unit {0}
+
+-- ---- what lines say of what
+
+-- the kind of a line
+abbrev pub kind : Line → Kind
+kind (Body predicate file) = kinds.Body
+kind (Calls caller callee) = kinds.Calls
+kind (Claims function claimed) = kinds.Claims
+kind (Instance family function file) = kinds.Instance
+kind (Provides provided signature) = kinds.Provides
+kind (Requires required signature) = kinds.Requires
+kind (Struct tag file) = kinds.Struct
+kind (Uses header digest) = kinds.Uses
+
+-- of what a line speaks: an identity, or two of them, or a header
+abbrev pub subject : Line → List ℕ
+subject (Body predicate file) = identity_text predicate
+subject (Calls caller callee) = identity_text caller
+subject (Claims function claimed) = identity_text function
+subject (Instance family function file) = two (identity_text family) (identity_text function)
+subject (Provides provided signature) = identity_text provided
+subject (Requires required signature) = identity_text required
+subject (Struct tag file) = identity_text tag
+subject (Uses header digest) = header
+
+-- what a line says of that: a file, another identity, a signature or a digest
+abbrev pub content : Line → List ℕ
+content (Body predicate file) = file
+content (Calls caller callee) = identity_text callee
+content (Claims function claimed) = identity_text claimed
+content (Instance family function file) = file
+content (Provides provided signature) = signature
+content (Requires required signature) = signature
+content (Struct tag file) = file
+content (Uses header digest) = digest
+
+-- the name of what a line provides, where it provides something
+abbrev pub provided_name : Line → Option (List ℕ)
+provided_name (Provides provided signature) = Some provided.name
+provided_name (Body predicate file) = None
+provided_name (Calls caller callee) = None
+provided_name (Claims function claimed) = None
+provided_name (Instance family function file) = None
+provided_name (Requires required signature) = None
+provided_name (Struct tag file) = None
+provided_name (Uses header digest) = None

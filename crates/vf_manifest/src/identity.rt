@@ -1,70 +1,53 @@
 //! What things are called among all files of a program.
 
-ghost use Rattle.std.specs.Prelude.{◌≡◌, ◌∷◌, ◌++◌, IfOk};
+ghost use Rattle.std.specs.Prelude.{◌≡◌, length};
 ghost use Rattle.vf_manifest.specs.Words.{identity_text};
 
-use std::alloc::Global;
 use std::marker::Model;
-use vf_base::{Memory, Text};
 
 /// What a thing is called among all files of a program: the path of the file of its first declaration, and its name.
 ///
-/// Both stand in one text, with `#` between them; contracts see the two.
+/// Both are lent.
 #[derive(Debug, Drop)]
-pub struct Identity {
-    text: Text,
-    /// How many bytes the path has.
-    path_len: usize,
+pub struct Identity<'a> {
+    path: &'a [u8],
+    name: &'a [u8],
 }
 
-impl Model for Identity {
-    ghost use Rattle.std.specs.Prelude.{◌≡◌, ◌+◌, ◌∷◌, ◌++◌, take, drop};
+impl<'a> Model for Identity<'a> {
     ghost use Rattle.vf_manifest.specs.Identities as pure;
 
     ghost Value = { pure.Identity };
 
-    ghost view = { λ i. record { path = take i.path_len i.text; name = drop (i.path_len + 1) i.text } };
-
-    ghost invariant = { λ i. i.text ≡ take i.path_len i.text ++ 35 ∷ drop (i.path_len + 1) i.text };
+    ghost view = { λ i. record { path = i.path.now; name = i.name.now } };
 }
 
-impl Identity {
+impl<'a> Identity<'a> {
     /// The identity with this path and this name.
-    pub fn new(alloc: Global, path: &[u8], name: &[u8]) -> Result<Identity, Memory>
-        ensures { IfOk result (λ i. i ≡ record { path = path.now; name = name.now }) }
+    pub fn new(path: &'a [u8], name: &'a [u8]) -> Identity<'a>
+        ensures { result ≡ record { path = path.now; name = name.now } }
     {
-        let mut text = Text::from_bytes(alloc, path)?;
-        text.push(b'#')?;
-        text.push_bytes(name)?;
-        Ok(Identity {
-            text,
-            path_len: path.len(),
-        })
+        Identity { path, name }
     }
 
-    /// The identity with this text, in which a path and a name stand with `#` between them.
-    pub fn of_text(alloc: Global, text: &[u8], path: &[u8], name: &[u8]) -> Result<Identity, Memory>
-        requires { text.now ≡ path.now ++ 35 ∷ name.now }
-        ensures { IfOk result (λ i. i ≡ record { path = path.now; name = name.now }) }
+    /// The path.
+    pub fn path(&self) -> &[u8]
+        ensures { result.now ≡ self.now.path }
     {
-        let text = Text::from_bytes(alloc, text)?;
-        Ok(Identity {
-            text,
-            path_len: path.len(),
-        })
-    }
-
-    /// The text: path, `#` and name.
-    pub fn as_bytes(&self) -> &[u8]
-        ensures { result.now ≡ identity_text self.now }
-    {
-        self.text.as_bytes()
+        self.path
     }
 
     /// The name.
     pub fn name(&self) -> &[u8]
         ensures { result.now ≡ self.now.name }
     {
-        &self.text.as_bytes()[self.path_len + 1..]
+        self.name
+    }
+
+    /// How many bytes its text has: path, `#` and name.
+    pub fn text_len(&self) -> usize
+        ensures { result ≡ length (identity_text self.now) }
+    {
+        self.path.len() + 1 + self.name.len()
     }
 }

@@ -1,4 +1,4 @@
-//! The kinds of lines, by their first words.
+//! The kinds of lines.
 
 ghost use Rattle.std.specs.Prelude.{◌≡◌};
 ghost use Rattle.vf_manifest.specs.Reading.{kind_of};
@@ -6,7 +6,7 @@ ghost use Rattle.vf_manifest.specs.Reading.{kind_of};
 use crate::words::is_text;
 
 /// The kind of a line.
-#[derive(Clone, Copy)]
+#[derive(Clone, Copy, Debug, PartialEq, Eq)]
 pub enum Kind {
     Body,
     Calls,

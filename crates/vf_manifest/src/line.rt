@@ -1,51 +1,51 @@
 //! The lines of manifests.
 
 use crate::identity::Identity;
-use vf_base::Text;
+use crate::word::Word;
 
-/// A line of a manifest.
+/// A line of a manifest, whose words are lent.
 #[derive(Debug, Drop)]
-pub enum Line {
+pub enum Line<'a> {
     /// The body of a predicate stands in a file.
     Body {
-        predicate: Identity,
-        file: Text,
+        predicate: Identity<'a>,
+        file: Word<'a>,
     },
     /// The body of a lemma calls another lemma.
     Calls {
-        caller: Identity,
-        callee: Identity,
+        caller: Identity<'a>,
+        callee: Identity<'a>,
     },
     /// A function that is defined claims a function type.
     Claims {
-        function: Identity,
-        claimed: Identity,
+        function: Identity<'a>,
+        claimed: Identity<'a>,
     },
     /// An instance of a predicate family at a function stands in a file.
     Instance {
-        family: Identity,
-        function: Identity,
-        file: Text,
+        family: Identity<'a>,
+        function: Identity<'a>,
+        file: Word<'a>,
     },
     /// A function or lemma has its body here, and this signature.
     Provides {
-        provided: Identity,
-        signature: Text,
+        provided: Identity<'a>,
+        signature: Word<'a>,
     },
     /// A function or lemma of this signature has its body elsewhere.
     Requires {
-        required: Identity,
-        signature: Text,
+        required: Identity<'a>,
+        signature: Word<'a>,
     },
     /// The body of a struct stands in a file.
     Struct {
-        tag: Identity,
-        file: Text,
+        tag: Identity<'a>,
+        file: Word<'a>,
     },
     /// A header was read, and its bytes have this digest.
     Uses {
-        header: Text,
-        digest: Text,
+        header: Word<'a>,
+        digest: Word<'a>,
     },
 }
 

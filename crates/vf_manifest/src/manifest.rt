@@ -12,81 +12,79 @@ use crate::fault::{ManifestFault, WordFault};
 use crate::identity::Identity;
 use crate::kind::{Kind, kind_of};
 use crate::line::{Line, Version};
+use crate::lines::Manifest;
 use crate::order::is_before;
 use crate::signature::signature;
+use crate::word::Word;
 use crate::words::{cut, digest_text, file_path, identity, own_identity, path, split_line};
 use std::alloc::Global;
-use vf_base::{Sequence, Text};
-
-/// The lines of a manifest, in the order of their bytes.
-pub type Manifest = Sequence<Line>;
 
 /// The most bytes of a manifest's text.
 pub const MOST_BYTES: usize = 16_777_216;
 
 #[tactic(auto, unfolding(crate::specs::Reading::both))]
-fn pair(alloc: Global, text: &[u8]) -> Result<(Identity, Identity), WordFault>
+fn pair(text: &[u8]) -> Result<(Identity<'_>, Identity<'_>), WordFault>
     ensures { Gives (λ x. (x.0, x.1)) result (pair_at text.now) }
 {
     let (first, second) = cut(text, b' ')?;
-    let first = identity(alloc, first)?;
-    let second = identity(alloc, second)?;
+    let first = identity(first)?;
+    let second = identity(second)?;
     Ok((first, second))
 }
 
 #[tactic(auto, unfolding(crate::specs::Reading::both))]
-fn placed(alloc: Global, text: &[u8]) -> Result<(Identity, Text), WordFault>
+fn placed(text: &[u8]) -> Result<(Identity<'_>, Word<'_>), WordFault>
     ensures { Gives (λ x. (x.0, x.1)) result (placed_at text.now) }
 {
     let (item, file) = cut(text, b' ')?;
-    let item = own_identity(alloc, item)?;
-    let file = file_path(alloc, file)?;
+    let item = own_identity(item)?;
+    let file = file_path(file)?;
     Ok((item, file))
 }
 
 #[tactic(auto, unfolding(crate::specs::Reading::both))]
-fn located(alloc: Global, text: &[u8]) -> Result<(Identity, Text), WordFault>
+fn located(text: &[u8]) -> Result<(Identity<'_>, Word<'_>), WordFault>
     ensures { Gives (λ x. (x.0, x.1)) result (located_at text.now) }
 {
     let (item, file) = cut(text, b' ')?;
-    let item = identity(alloc, item)?;
-    let file = path(alloc, file)?;
+    let item = identity(item)?;
+    let file = path(file)?;
     Ok((item, file))
 }
 
 #[tactic(auto, unfolding(crate::specs::Reading::both))]
-fn instance(alloc: Global, text: &[u8]) -> Result<(Identity, (Identity, Text)), WordFault>
+fn instance(text: &[u8]) -> Result<(Identity<'_>, (Identity<'_>, Word<'_>)), WordFault>
     ensures { Gives (λ x. (x.0, (x.1.0, x.1.1))) result (instance_at text.now) }
 {
     let (family, rest) = cut(text, b' ')?;
-    let family = identity(alloc, family)?;
-    let rest = located(alloc, rest)?;
+    let family = identity(family)?;
+    let rest = located(rest)?;
     Ok((family, rest))
 }
 
 #[tactic(auto, unfolding(crate::specs::Reading::both))]
-fn used(alloc: Global, text: &[u8]) -> Result<(Text, Text), WordFault>
+fn used(text: &[u8]) -> Result<(Word<'_>, Word<'_>), WordFault>
     ensures { Gives (λ x. (x.0, x.1)) result (used_at text.now) }
 {
     let (header, digest) = cut(text, b' ')?;
-    let header = file_path(alloc, header)?;
-    let digest = digest_text(alloc, digest)?;
+    let header = file_path(header)?;
+    let digest = digest_text(digest)?;
     Ok((header, digest))
 }
 
 #[tactic(auto, unfolding(crate::specs::Reading::signed_at, crate::specs::Reading::both))]
-fn provided(alloc: Global, version: Version, text: &[u8]) -> Result<(Identity, Text), WordFault>
+fn provided(alloc: Global, version: Version, text: &[u8]) -> Result<(Identity<'_>, Word<'_>), WordFault>
     ensures { Gives (λ x. (x.0, x.1)) result (signed_at version is_identity text.now) }
 {
     match version {
         Version::First => {
-            let item = identity(alloc, text)?;
-            let signature = Text::from_bytes(alloc, b"?")?;
+            let item = identity(text)?;
+            let signature = Word::new(b"?");
             Ok((item, signature))
         }
         Version::Second => {
             let (item, told) = cut(text, b' ')?;
-            let item = identity(alloc, item)?;
+            let item = identity(item)?;
             let told = signature(alloc, told)?;
             Ok((item, told))
         }
@@ -94,18 +92,18 @@ fn provided(alloc: Global, version: Version, text: &[u8]) -> Result<(Identity, T
 }
 
 #[tactic(auto, unfolding(crate::specs::Reading::signed_at, crate::specs::Reading::both))]
-fn required(alloc: Global, version: Version, text: &[u8]) -> Result<(Identity, Text), WordFault>
+fn required(alloc: Global, version: Version, text: &[u8]) -> Result<(Identity<'_>, Word<'_>), WordFault>
     ensures { Gives (λ x. (x.0, x.1)) result (signed_at version is_own_identity text.now) }
 {
     match version {
         Version::First => {
-            let item = own_identity(alloc, text)?;
-            let signature = Text::from_bytes(alloc, b"?")?;
+            let item = own_identity(text)?;
+            let signature = Word::new(b"?");
             Ok((item, signature))
         }
         Version::Second => {
             let (item, told) = cut(text, b' ')?;
-            let item = own_identity(alloc, item)?;
+            let item = own_identity(item)?;
             let told = signature(alloc, told)?;
             Ok((item, told))
         }
@@ -114,24 +112,24 @@ fn required(alloc: Global, version: Version, text: &[u8]) -> Result<(Identity, T
 
 /// The line of this kind with these words.
 #[tactic(auto, unfolding(crate::specs::Reading::words_at))]
-fn words_of(alloc: Global, version: Version, kind: Kind, text: &[u8]) -> Result<Line, WordFault>
+fn words_of(alloc: Global, version: Version, kind: Kind, text: &[u8]) -> Result<Line<'_>, WordFault>
     ensures { Gives (λ l. l) result (words_at version kind text.now) }
 {
     match kind {
         Kind::Body => {
-            let (predicate, file) = placed(alloc, text)?;
+            let (predicate, file) = placed(text)?;
             Ok(Line::Body { predicate, file })
         }
         Kind::Calls => {
-            let (caller, callee) = pair(alloc, text)?;
+            let (caller, callee) = pair(text)?;
             Ok(Line::Calls { caller, callee })
         }
         Kind::Claims => {
-            let (function, claimed) = pair(alloc, text)?;
+            let (function, claimed) = pair(text)?;
             Ok(Line::Claims { function, claimed })
         }
         Kind::Instance => {
-            let (family, (function, file)) = instance(alloc, text)?;
+            let (family, (function, file)) = instance(text)?;
             Ok(Line::Instance {
                 family,
                 function,
@@ -153,11 +151,11 @@ fn words_of(alloc: Global, version: Version, kind: Kind, text: &[u8]) -> Result<
             })
         }
         Kind::Struct => {
-            let (tag, file) = placed(alloc, text)?;
+            let (tag, file) = placed(text)?;
             Ok(Line::Struct { tag, file })
         }
         Kind::Uses => {
-            let (header, digest) = used(alloc, text)?;
+            let (header, digest) = used(text)?;
             Ok(Line::Uses { header, digest })
         }
     }
@@ -165,7 +163,7 @@ fn words_of(alloc: Global, version: Version, kind: Kind, text: &[u8]) -> Result<
 
 /// The line that a text is.
 #[tactic(auto, unfolding(crate::specs::Reading::line_at))]
-fn line_of(alloc: Global, version: Version, text: &[u8]) -> Result<Line, WordFault>
+fn line_of(alloc: Global, version: Version, text: &[u8]) -> Result<Line<'_>, WordFault>
     ensures { Gives (λ l. l) result (line_at version text.now) }
 {
     let (word, words) = cut(text, b' ')?;
@@ -176,7 +174,7 @@ fn line_of(alloc: Global, version: Version, text: &[u8]) -> Result<Line, WordFau
 }
 
 /// The signature of a line, where it has one.
-fn signature_of(line: &Line) -> Option<&Text>
+fn signature_of<'a, 'b>(line: &'a Line<'b>) -> Option<&'a Word<'b>>
     ensures told { IfSome result (λ s. signature_part line.now ≡ 32 ∷ s.now) }
     ensures none { IfNone result (signature_part line.now ≡ []) }
 {
@@ -187,19 +185,19 @@ fn signature_of(line: &Line) -> Option<&Text>
 }
 
 /// The key of a line with this text in version 2.
-fn told_key<'a>(line: &Line, text: &'a [u8]) -> &'a [u8]
+fn told_key<'a>(line: &Line<'_>, text: &'a [u8]) -> &'a [u8]
     requires { text.now ≡ spelled versions.Second line.now }
     ensures { result.now ≡ key line.now }
 {
     match signature_of(line) {
-        Some(signature) => text.split_at(text.len() - 1 - signature.len()).0,
+        Some(signature) => text.split_at(text.len() - 1 - signature.as_bytes().len()).0,
         None => text,
     }
 }
 
 /// The key of a line with this text.
 #[tactic(auto, using(crate::proofs::ManifestLaws::key_first))]
-fn key_of<'a>(version: Version, line: &Line, text: &'a [u8]) -> &'a [u8]
+fn key_of<'a>(version: Version, line: &Line<'_>, text: &'a [u8]) -> &'a [u8]
     requires { text.now ≡ spelled version line.now }
     ensures { result.now ≡ key line.now }
 {
@@ -235,7 +233,7 @@ pub fn read_manifest(alloc: Global, bytes: &[u8]) -> Result<Manifest, ManifestFa
     let Some((version, mut left)) = head_of(bytes) else {
         return Err(ManifestFault::Syntax { line: 1 });
     };
-    let mut lines = Sequence::new(alloc);
+    let mut lines = Manifest::new(alloc);
     let mut last: &[u8] = &[];
     let mut number = 2;
     'lines: while left.len() > 0 {

@@ -12,10 +12,11 @@ ghost use Rattle.vf_manifest.specs.Words.{is_visible};
 ghost use Rattle.vf_manifest.specs.Signatures.{plain_types, is_empty, is_starred_name, is_pointer_type, is_type, are_types, is_function, is_numeral, is_at_most, is_parameter, is_datatype, is_sort_word, is_sort_byte, can_begin, ends_sort, ends_none, closes, next, are_sorts, is_lemma, is_signature};
 
 use crate::fault::WordFault;
+use crate::word::Word;
 use crate::words::{first_and_rest, is_among, is_name, is_text, is_visible, is_word_byte, split};
 use std::alloc::Global;
 use std::cmp::Ordering;
-use vf_base::{Memory, Text};
+use vf_base::Memory;
 
 /// The types of C without names.
 const PLAIN_TYPES: [&str; 14] = [
@@ -327,13 +328,13 @@ fn is_signature(alloc: Global, text: &[u8]) -> Result<bool, Memory>
 }
 
 /// A signature.
-pub fn signature(alloc: Global, text: &[u8]) -> Result<Text, WordFault>
+pub fn signature(alloc: Global, text: &[u8]) -> Result<Word<'_>, WordFault>
     ensures { Gives (λ t. t) result (tested is_signature text.now) }
 {
     if !is_signature(alloc, text)? {
         return Err(WordFault::Syntax);
     }
-    Ok(Text::from_bytes(alloc, text)?)
+    Ok(Word::new(text))
 }
 
 /// The signature of a lemma, as a tree of sorts spells it, is read.

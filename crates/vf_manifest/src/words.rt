@@ -10,8 +10,7 @@ ghost use Rattle.vf_manifest.specs.Reading.{Gives, tested, identity_at};
 
 use crate::fault::WordFault;
 use crate::identity::Identity;
-use std::alloc::Global;
-use vf_base::Text;
+use crate::word::Word;
 
 /// The paths of the prelude's headers.
 const PRELUDE_PATHS: [&str; 7] = [
@@ -187,38 +186,38 @@ pub fn cut(text: &[u8], byte: u8) -> Result<(&[u8], &[u8]), WordFault>
 }
 
 /// The path of a file.
-pub fn file_path(alloc: Global, text: &[u8]) -> Result<Text, WordFault>
+pub fn file_path(text: &[u8]) -> Result<Word<'_>, WordFault>
     ensures { Gives (λ t. t) result (tested is_file_path text.now) }
 {
     if !is_file_path(text) {
         return Err(WordFault::Syntax);
     }
-    Ok(Text::from_bytes(alloc, text)?)
+    Ok(Word::new(text))
 }
 
 /// A path of a file or of a header of the prelude.
-pub fn path(alloc: Global, text: &[u8]) -> Result<Text, WordFault>
+pub fn path(text: &[u8]) -> Result<Word<'_>, WordFault>
     ensures { Gives (λ t. t) result (tested is_path text.now) }
 {
     if !is_path(text) {
         return Err(WordFault::Syntax);
     }
-    Ok(Text::from_bytes(alloc, text)?)
+    Ok(Word::new(text))
 }
 
 /// A digest in hexadecimal.
-pub fn digest_text(alloc: Global, text: &[u8]) -> Result<Text, WordFault>
+pub fn digest_text(text: &[u8]) -> Result<Word<'_>, WordFault>
     ensures { Gives (λ t. t) result (tested is_digest text.now) }
 {
     if !is_digest(text) {
         return Err(WordFault::Syntax);
     }
-    Ok(Text::from_bytes(alloc, text)?)
+    Ok(Word::new(text))
 }
 
 /// An identity.
 #[tactic(auto, unfolding(crate::specs::Reading::identity_at))]
-pub fn identity(alloc: Global, text: &[u8]) -> Result<Identity, WordFault>
+pub fn identity(text: &[u8]) -> Result<Identity<'_>, WordFault>
     ensures { Gives (λ i. i) result (identity_at is_identity text.now) }
 {
     let (path, name) = cut(text, b'#')?;
@@ -227,12 +226,12 @@ pub fn identity(alloc: Global, text: &[u8]) -> Result<Identity, WordFault>
     if !(is_path && is_name) {
         return Err(WordFault::Syntax);
     }
-    Ok(Identity::of_text(alloc, text, path, name)?)
+    Ok(Identity::new(path, name))
 }
 
 /// An identity of a file.
 #[tactic(auto, unfolding(crate::specs::Reading::identity_at))]
-pub fn own_identity(alloc: Global, text: &[u8]) -> Result<Identity, WordFault>
+pub fn own_identity(text: &[u8]) -> Result<Identity<'_>, WordFault>
     ensures { Gives (λ i. i) result (identity_at is_own_identity text.now) }
 {
     let (path, name) = cut(text, b'#')?;
@@ -241,5 +240,5 @@ pub fn own_identity(alloc: Global, text: &[u8]) -> Result<Identity, WordFault>
     if !(is_path && is_name) {
         return Err(WordFault::Syntax);
     }
-    Ok(Identity::of_text(alloc, text, path, name)?)
+    Ok(Identity::new(path, name))
 }

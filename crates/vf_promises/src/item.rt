@@ -2,8 +2,7 @@
 
 ghost use Rattle.std.specs.Prelude.{◌≡◌, [], ◌∷◌, ◌++◌, fold, map, IfOk, OnOk};
 ghost use Rattle.vf_names.specs.Names.{put};
-ghost use Rattle.vf_promises.specs.Lines as lines;
-ghost use Rattle.vf_promises.specs.Lines.{body_lines, call_line, call_lines, claim_lines, form_lines, instance_line, is_claimed, is_other_lemma, is_own, item_lines, others_called, struct_lines};
+ghost use Rattle.vf_promises.specs.Lines.{body_lines, call_line, call_lines, claim_lines, form_lines, instance_line, is_claimed, is_other_lemma, is_own, item_lines, others_called, provided_line, required_line, struct_lines};
 ghost use Rattle.vf_promises.specs.Required.{each_once};
 
 use crate::meaning::{
@@ -16,7 +15,7 @@ use std::alloc::Global;
 use vf_base::{Memory, Sequence, Text};
 use vf_declared::lookup::has;
 use vf_declared::scope::Scope;
-use vf_manifest::{Line, Manifest};
+use vf_manifest::{Line, Manifest, Word};
 use vf_mentions::{Mention, mentions_of_lemma};
 use vf_names::Names;
 use vf_snapshot::Snapshot;
@@ -31,41 +30,48 @@ fn is_own(scope: &Scope, name: &Name) -> bool
     !has(&scope.preludes, u64::from(name.place.file))
 }
 
-/// The line of a function or lemma that has its body here.
-fn provided_line(
+/// Adds the line of a function or lemma that has its body here.
+fn add_provided(
     alloc: Global,
     snapshot: &Snapshot,
     scope: &Scope,
     names: &TypeNames,
     name: &Text,
-) -> Result<Line, Memory>
-    ensures { IfOk result (λ line. line ≡ lines.provided_line snapshot.now scope.now names.now name.now) }
+    all: &mut Manifest,
+) -> Result<(), Memory>
+    ensures { OnOk result (all.new ≡ all.old ++ provided_line snapshot.now scope.now names.now name.now ∷ []) }
 {
-    Ok(Line::Provides {
-        provided: identity_named(alloc, snapshot, scope, name.as_bytes())?,
-        signature: signature_named(alloc, scope, names, name.as_bytes())?,
+    let provided = identity_named(snapshot, scope, name.as_bytes())?;
+    let signature = signature_named(alloc, scope, names, name.as_bytes())?;
+    let signature = Word::new(signature.as_bytes());
+    all.push(Line::Provides {
+        provided,
+        signature,
     })
 }
 
-/// The line of a function or lemma that has its body elsewhere.
-pub fn required_line(
+/// Adds the line of a function or lemma that has its body elsewhere.
+pub fn add_required_name(
     alloc: Global,
     snapshot: &Snapshot,
     scope: &Scope,
     names: &TypeNames,
     name: &Text,
-) -> Result<Line, Memory>
-    ensures { IfOk result (λ line. line ≡ lines.required_line snapshot.now scope.now names.now name.now) }
+    all: &mut Manifest,
+) -> Result<(), Memory>
+    ensures { OnOk result (all.new ≡ all.old ++ required_line snapshot.now scope.now names.now name.now ∷ []) }
 {
-    Ok(Line::Requires {
-        required: identity_named(alloc, snapshot, scope, name.as_bytes())?,
-        signature: signature_named(alloc, scope, names, name.as_bytes())?,
+    let required = identity_named(snapshot, scope, name.as_bytes())?;
+    let signature = signature_named(alloc, scope, names, name.as_bytes())?;
+    let signature = Word::new(signature.as_bytes());
+    all.push(Line::Requires {
+        required,
+        signature,
     })
 }
 
 /// Adds the line of a struct with its fields, unless it is the prelude's.
 fn add_struct(
-    alloc: Global,
     snapshot: &Snapshot,
     scope: &Scope,
     name: &Name,
@@ -74,8 +80,8 @@ fn add_struct(
     ensures { OnOk result (all.new ≡ all.old ++ struct_lines snapshot.now scope.now name.now) }
 {
     if is_own(scope, name) {
-        let tag = identity_tagged(alloc, snapshot, scope, &name.text)?;
-        let file = path_at(alloc, snapshot, u64::from(name.place.file))?;
+        let tag = identity_tagged(snapshot, scope, &name.text)?;
+        let file = Word::new(path_at(snapshot, u64::from(name.place.file))?);
         all.push(Line::Struct { tag, file })?;
     }
     Ok(())
@@ -83,7 +89,6 @@ fn add_struct(
 
 /// Adds the line of the body of a predicate, unless it is the prelude's.
 fn add_body(
-    alloc: Global,
     snapshot: &Snapshot,
     scope: &Scope,
     name: &Name,
@@ -92,27 +97,26 @@ fn add_body(
     ensures { OnOk result (all.new ≡ all.old ++ body_lines snapshot.now scope.now name.now) }
 {
     if is_own(scope, name) {
-        let predicate = identity_named(alloc, snapshot, scope, name.text.as_bytes())?;
-        let file = path_at(alloc, snapshot, u64::from(name.place.file))?;
+        let predicate = identity_named(snapshot, scope, name.text.as_bytes())?;
+        let file = Word::new(path_at(snapshot, u64::from(name.place.file))?);
         all.push(Line::Body { predicate, file })?;
     }
     Ok(())
 }
 
 /// The line of an instance of a family.
-fn instance_line(
-    alloc: Global,
-    snapshot: &Snapshot,
+fn instance_line<'a>(
+    snapshot: &'a Snapshot,
     scope: &Scope,
-    family: &Name,
-    function: &Name,
-) -> Result<Line, Memory>
+    family: &'a Name,
+    function: &'a Name,
+) -> Result<Line<'a>, Memory>
     ensures { IfOk result (λ line. line ≡ instance_line snapshot.now scope.now family.now function.now) }
 {
     Ok(Line::Instance {
-        family: identity_named(alloc, snapshot, scope, family.text.as_bytes())?,
-        function: identity_named(alloc, snapshot, scope, function.text.as_bytes())?,
-        file: path_at(alloc, snapshot, u64::from(family.place.file))?,
+        family: identity_named(snapshot, scope, family.text.as_bytes())?,
+        function: identity_named(snapshot, scope, function.text.as_bytes())?,
+        file: Word::new(path_at(snapshot, u64::from(family.place.file))?),
     })
 }
 
@@ -127,7 +131,6 @@ fn is_claimed(scope: &Scope, known: &Names, name: &Text, claim: &Claim) -> bool
 
 /// Adds the line of the claim that may stand beside a function.
 fn add_claim(
-    alloc: Global,
     snapshot: &Snapshot,
     scope: &Scope,
     known: &Names,
@@ -141,8 +144,8 @@ fn add_claim(
         return Ok(());
     };
     if is_claimed(scope, known, name, claim) {
-        let function = identity_named(alloc, snapshot, scope, name.as_bytes())?;
-        let claimed = identity_named(alloc, snapshot, scope, claim.name.text.as_bytes())?;
+        let function = identity_named(snapshot, scope, name.as_bytes())?;
+        let claimed = identity_named(snapshot, scope, claim.name.text.as_bytes())?;
         all.push(Line::Claims { function, claimed })?;
     }
     Ok(())
@@ -187,18 +190,17 @@ fn called_names(
 }
 
 /// The line of a call in the body of a lemma.
-fn call_line(
-    alloc: Global,
-    snapshot: &Snapshot,
+fn call_line<'a>(
+    snapshot: &'a Snapshot,
     scope: &Scope,
-    own: &Text,
-    name: &Text,
-) -> Result<Line, Memory>
+    own: &'a Text,
+    name: &'a Text,
+) -> Result<Line<'a>, Memory>
     ensures { IfOk result (λ line. line ≡ call_line snapshot.now scope.now own.now name.now) }
 {
     Ok(Line::Calls {
-        caller: identity_named(alloc, snapshot, scope, own.as_bytes())?,
-        callee: identity_named(alloc, snapshot, scope, name.as_bytes())?,
+        caller: identity_named(snapshot, scope, own.as_bytes())?,
+        callee: identity_named(snapshot, scope, name.as_bytes())?,
     })
 }
 
@@ -215,7 +217,7 @@ fn add_calls(
 {
     let names = called_names(alloc, scope, own, mentions)?;
     for name in names.as_slice() {
-        all.push(call_line(alloc, snapshot, scope, own, name)?)?;
+        all.push(call_line(snapshot, scope, own, name)?)?;
     }
     Ok(())
 }
@@ -232,12 +234,12 @@ fn add_form(
     ensures { OnOk result (all.new ≡ all.old ++ form_lines snapshot.now scope.now names.now form.now) }
 {
     match form {
-        GhostForm::PredicateBody(name, _, _) => add_body(alloc, snapshot, scope, name, all),
+        GhostForm::PredicateBody(name, _, _) => add_body(snapshot, scope, name, all),
         GhostForm::Instance(family, function, _, _) => {
-            all.push(instance_line(alloc, snapshot, scope, family, function)?)
+            all.push(instance_line(snapshot, scope, family, function)?)
         }
         GhostForm::Lemma(name, _, _, _, body) => {
-            all.push(provided_line(alloc, snapshot, scope, names, &name.text)?)?;
+            add_provided(alloc, snapshot, scope, names, &name.text, all)?;
             let mentions = mentions_of_lemma(alloc, body)?;
             add_calls(alloc, snapshot, scope, &name.text, &mentions, all)
         }
@@ -258,15 +260,15 @@ pub fn add_item(
     ensures { OnOk result (all.new ≡ all.old ++ item_lines snapshot.now scope.now names.now known.now item.now) }
 {
     match item {
-        Item::Struct(_, name, _) => add_struct(alloc, snapshot, scope, name, all),
+        Item::Struct(_, name, _) => add_struct(snapshot, scope, name, all),
         Item::Prototype(signature, claim, _) => {
             let name = &signature.name.text;
-            add_claim(alloc, snapshot, scope, known, name, claim, all)
+            add_claim(snapshot, scope, known, name, claim, all)
         }
         Item::Function(signature, claim, _, _) => {
             let name = &signature.name.text;
-            all.push(provided_line(alloc, snapshot, scope, names, name)?)?;
-            add_claim(alloc, snapshot, scope, known, name, claim, all)
+            add_provided(alloc, snapshot, scope, names, name, all)?;
+            add_claim(snapshot, scope, known, name, claim, all)
         }
         Item::Ghost(annotation) => {
             add_form(alloc, snapshot, scope, names, &annotation.form, all)

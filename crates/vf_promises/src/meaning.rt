@@ -23,40 +23,39 @@ use vf_names::Names;
 use vf_snapshot::Snapshot;
 
 /// The path of the file with a number; no bytes where there is none.
-pub fn path_at(alloc: Global, snapshot: &Snapshot, file: u64) -> Result<Text, Memory>
-    ensures { IfOk result (λ t. t ≡ meant.path_at snapshot.now file) }
+pub fn path_at(snapshot: &Snapshot, file: u64) -> Result<&[u8], Memory>
+    ensures { IfOk result (λ t. t.now ≡ meant.path_at snapshot.now file) }
 {
     let Ok(number) = u32::try_from(file) else {
         return Err(Memory);
     };
     if (number as usize) < snapshot.len() {
-        Text::from_bytes(alloc, snapshot.path(number).as_bytes())
+        Ok(snapshot.path(number).as_bytes())
     } else {
-        Ok(Text::new(alloc))
+        Ok(&[])
     }
 }
 
 /// The path of the first of some files; no bytes where there is none.
-fn first_path(alloc: Global, snapshot: &Snapshot, files: &[u64]) -> Result<Text, Memory>
-    ensures { IfOk result (λ t. t ≡ first_path (paths snapshot.now) files.now) }
+fn first_path<'a>(snapshot: &'a Snapshot, files: &[u64]) -> Result<&'a [u8], Memory>
+    ensures { IfOk result (λ t. t.now ≡ first_path (paths snapshot.now) files.now) }
 {
     match files.get(0) {
-        Some(file) => path_at(alloc, snapshot, *file),
-        None => Ok(Text::new(alloc)),
+        Some(file) => path_at(snapshot, *file),
+        None => Ok(&[]),
     }
 }
 
 /// The identity of a name that is declared in some files.
-fn identity_in(
-    alloc: Global,
-    snapshot: &Snapshot,
+fn identity_in<'a>(
+    snapshot: &'a Snapshot,
     files: &[u64],
-    name: &[u8],
-) -> Result<Identity, Memory>
+    name: &'a [u8],
+) -> Result<Identity<'a>, Memory>
     ensures { IfOk result (λ i. i ≡ identity_in snapshot.now files.now name.now) }
 {
-    let path = first_path(alloc, snapshot, files)?;
-    Identity::new(alloc, path.as_bytes(), name)
+    let path = first_path(snapshot, files)?;
+    Ok(Identity::new(path, name))
 }
 
 /// What declares a name of file level.
@@ -68,17 +67,16 @@ fn declared<'a>(scope: &'a Scope, name: &[u8]) -> Option<&'a Declaration>
 }
 
 /// The identity of a name of file level.
-pub fn identity_named(
-    alloc: Global,
-    snapshot: &Snapshot,
+pub fn identity_named<'a>(
+    snapshot: &'a Snapshot,
     scope: &Scope,
-    name: &[u8],
-) -> Result<Identity, Memory>
+    name: &'a [u8],
+) -> Result<Identity<'a>, Memory>
     ensures { IfOk result (λ i. i ≡ meant.identity_named snapshot.now scope.now name.now) }
 {
     match declared(scope, name) {
-        Some(declaration) => identity_in(alloc, snapshot, declaration.files.as_slice(), name),
-        None => identity_in(alloc, snapshot, &[], name),
+        Some(declaration) => identity_in(snapshot, declaration.files.as_slice(), name),
+        None => identity_in(snapshot, &[], name),
     }
 }
 
@@ -91,19 +89,18 @@ fn structure_at<'a>(scope: &'a Scope, tag: &[u8]) -> Option<&'a Structure>
 }
 
 /// The identity of a tag.
-pub fn identity_tagged(
-    alloc: Global,
-    snapshot: &Snapshot,
+pub fn identity_tagged<'a>(
+    snapshot: &'a Snapshot,
     scope: &Scope,
-    tag: &Text,
-) -> Result<Identity, Memory>
+    tag: &'a Text,
+) -> Result<Identity<'a>, Memory>
     ensures { IfOk result (λ i. i ≡ meant.identity_tagged snapshot.now scope.now tag.now) }
 {
     match structure_at(scope, tag.as_bytes()) {
         Some(structure) => {
-            identity_in(alloc, snapshot, structure.files.as_slice(), tag.as_bytes())
+            identity_in(snapshot, structure.files.as_slice(), tag.as_bytes())
         }
-        None => identity_in(alloc, snapshot, &[], tag.as_bytes()),
+        None => identity_in(snapshot, &[], tag.as_bytes()),
     }
 }
 

@@ -5,7 +5,7 @@ ghost use Rattle.vf_promises.specs.Lines.{held_bytes, item_lines, lines_of, requ
 ghost use Rattle.vf_promises.specs.Required.{along};
 ghost use Rattle.vf_promises.specs.TypeNames as names;
 
-use crate::item::{add_item, required_line};
+use crate::item::{add_item, add_required_name};
 use crate::meaning::path_at;
 use crate::required::{learn, required_names};
 use crate::type_names::{TypeNames, type_names};
@@ -13,7 +13,7 @@ use std::alloc::Global;
 use vf_base::{Memory, NumberList, Sequence};
 use vf_declared::lookup::has;
 use vf_declared::scope::Scope;
-use vf_manifest::{Line, Manifest, digest};
+use vf_manifest::{Line, Manifest, Word, digest};
 use vf_names::Names;
 use vf_snapshot::Snapshot;
 use vf_syntax::item::Item;
@@ -49,7 +49,7 @@ fn add_required(
     ensures { OnOk result (all.new ≡ all.old ++ map (required_line snapshot.now scope.now names.now) required.now) }
 {
     for name in required.as_slice() {
-        all.push(required_line(alloc, snapshot, scope, names, name)?)?;
+        add_required_name(alloc, snapshot, scope, names, name, all)?;
     }
     Ok(())
 }
@@ -65,16 +65,23 @@ fn held_bytes(snapshot: &Snapshot, file: u32) -> &[u8]
     }
 }
 
-/// The line of a header.
-fn used_line(alloc: Global, snapshot: &Snapshot, header: u64) -> Result<Line, Memory>
-    ensures { IfOk result (λ line. line ≡ used_line snapshot.now header) }
+/// Adds the line of a header.
+fn add_used(
+    alloc: Global,
+    snapshot: &Snapshot,
+    header: u64,
+    all: &mut Manifest,
+) -> Result<(), Memory>
+    ensures { OnOk result (all.new ≡ all.old ++ used_line snapshot.now header ∷ []) }
 {
     let Ok(number) = u32::try_from(header) else {
         return Err(Memory);
     };
-    Ok(Line::Uses {
-        header: path_at(alloc, snapshot, header)?,
-        digest: digest(alloc, held_bytes(snapshot, number))?,
+    let path = path_at(snapshot, header)?;
+    let digest = digest(alloc, held_bytes(snapshot, number))?;
+    all.push(Line::Uses {
+        header: Word::new(path),
+        digest: Word::new(digest.as_bytes()),
     })
 }
 
@@ -89,7 +96,7 @@ fn add_header(
     ensures { OnOk result (all.new ≡ all.old ++ used_lines snapshot.now scope.now (header ∷ [])) }
 {
     if !has(&scope.preludes, header) {
-        all.push(used_line(alloc, snapshot, header)?)?;
+        add_used(alloc, snapshot, header, all)?;
     }
     Ok(())
 }

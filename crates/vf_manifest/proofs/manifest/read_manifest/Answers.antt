@@ -58,7 +58,7 @@ lines-preserved c =
     let more =
     goes_on c.args.bytes.now c.in-Some.version c.lines.lines c.lines.last.now c.lines.left.now c.lines.number c.in-Some-split_line.text.now c.in-Some-split_line.rest.now c.in-Ok.line c.lines.invariant
     (sym c.in-Some-split_line.ensures) c.in-Ok.ensures behind in
-    subst (λ (ls : List Line). SoFar c.args.bytes.now c.in-Some.version ls c.key_of-key.result.now c.in-Some-split_line.rest.now (c.lines.number + 1)) (sym c.in_ok-push.ensures.pushed)
+    subst (λ (ls : List Line). SoFar c.args.bytes.now c.in-Some.version ls c.key_of-key.result.now c.in-Some-split_line.rest.now (c.lines.number + 1)) (sym c.in_ok-push.ensures)
     (subst (λ (k : List ℕ). SoFar c.args.bytes.now c.in-Some.version (c.lines.lines ++ c.in-Ok.line ∷ []) k c.in-Some-split_line.rest.now (c.lines.number + 1)) (sym c.key_of-key.ensures) more)
 
 pub returns-clause-manifest : goal.returns-clause-manifest

@@ -1,5 +1,3 @@
-use Rattle.std.proofs.Common.{◌++◌, ap, ◌∙◌}
-use Rattle.vf_link.specs.Statements.{statements, subjects, contents}
 use Rattle.vf_link.proofs.Stated.{subjects_manifest, contents_manifest}
 use Rattle.vf_link.proofs.statement.Statements.push_all.Goals as goal
 
@@ -10,10 +8,7 @@ loop-manifest-preserved c =
     let new = c.push_lines.new.self in
     let m = c.manifest-item.result in
     let e = c.in_ok-push_lines.ensures in
-    let lines = c.as_slice.ensures in
     record {
-      subjects = subjects_manifest c.args.topic was.subjects old.subjects new.subjects c.args.manifests.now c.loop-manifest.manifest-index m c.loop-manifest-test.true c.manifest-item.is c.loop-manifest.invariant.subjects
-          (e.subjects ∙ ap (λ ls. old.subjects ++ subjects (statements c.args.topic ls)) lines);
-      contents = contents_manifest c.args.topic was.contents old.contents new.contents c.args.manifests.now c.loop-manifest.manifest-index m c.loop-manifest-test.true c.manifest-item.is c.loop-manifest.invariant.contents
-          (e.contents ∙ ap (λ ls. old.contents ++ contents (statements c.args.topic ls)) lines);
+      subjects = subjects_manifest c.args.topic was.subjects old.subjects new.subjects c.args.manifests.now c.loop-manifest.manifest-index m c.loop-manifest-test.true c.manifest-item.is c.loop-manifest.invariant.subjects e.subjects;
+      contents = contents_manifest c.args.topic was.contents old.contents new.contents c.args.manifests.now c.loop-manifest.manifest-index m c.loop-manifest-test.true c.manifest-item.is c.loop-manifest.invariant.contents e.contents;
     }
