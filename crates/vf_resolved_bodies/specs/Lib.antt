@@ -1,0 +1,4 @@
+pub mod Telling
+pub mod Invariants
+pub mod Statements
+pub mod Bodies
