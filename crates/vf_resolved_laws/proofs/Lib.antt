@@ -1,0 +1,14 @@
+pub mod Sorting
+pub mod Before
+pub mod Operating
+pub mod Naming
+pub mod Reading
+pub mod Binding
+pub mod Telling
+pub mod Pointers
+pub mod Chunks
+pub mod Places
+pub mod Switching
+pub mod Asserting
+pub mod Example
+pub mod Chunk

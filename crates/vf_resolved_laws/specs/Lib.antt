@@ -1,0 +1,10 @@
+pub mod Heads
+pub mod Terms
+pub mod Given
+pub mod Patterns
+pub mod Parts
+pub mod Levels
+pub mod Assertions
+pub mod Laws
+pub mod Example
+pub mod Chunk
