@@ -63,12 +63,7 @@ impl<'a> Statements<'a> {
     }
 
     /// Adds what the line at an index says on a topic.
-    fn push_line(
-        &mut self,
-        topic: Topic,
-        manifest: &'a Manifest,
-        at: usize,
-    ) -> Result<(), Memory>
+    fn push_line(&mut self, topic: Topic, manifest: &'a Manifest, at: usize) -> Result<(), Memory>
         requires { at < length manifest.now }
         ensures subjects { OnOk result (IfSome (slice_get manifest.now at) (λ l. self.new.subjects
             ≡ self.old.subjects ++ subjects (statements topic (l ∷ [])))) }

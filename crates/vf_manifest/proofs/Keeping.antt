@@ -48,10 +48,13 @@ kept_more bytes more s k =
     let ordered : s.start ≤ s.middle = k.0 in
     let within : s.middle ≤ s.end = k.1 in
     let ends : s.end ≤ length bytes = k.2 in
-    let total : length (bytes ++ more) ≡ length bytes + length more = length-append bytes more in
-    (ordered, within, omega arith,
+    let total : length (bytes ++ more) ≡ length bytes + length more = length-append bytes more in (
+      ordered,
+      within,
+      omega arith,
       ap subject (line_more bytes more s k) ∙ k.3 ∙ sym (part_more bytes more s.start s.middle ordered (omega arith)),
-      ap content (line_more bytes more s k) ∙ k.4 ∙ sym (part_more bytes more s.middle s.end within ends))
+      ap content (line_more bytes more s k) ∙ k.4 ∙ sym (part_more bytes more s.middle s.end within ends),
+    )
 
 lines_more : (bytes more : List ℕ) (ss : List Spot) → All (IsKept bytes) ss → map (line_at (bytes ++ more)) ss ≡ map (line_at bytes) ss
 lines_more bytes more [] all = refl
@@ -93,7 +96,8 @@ pub record IsPut (bytes : List ℕ) (l : Line) (s : Spot) (all : List ℕ) : Typ
 words_there : (bytes : List ℕ) (l : Line) (s : Spot) (all : List ℕ) → IsPut bytes l s all → (part all s.start s.middle ≡ subject l) × (part all s.middle s.end ≡ content l)
 words_there bytes l s all p = (
   ap (λ b. part b s.start s.middle) p.whole ∙ part_first bytes (subject l) (content l) s.start s.middle p.start p.middle,
-  ap (λ b. part b s.middle s.end) p.whole ∙ part_last (bytes ++ subject l) (content l) s.middle s.end p.middle (p.end ∙ ap length p.whole))
+  ap (λ b. part b s.middle s.end) p.whole ∙ part_last (bytes ++ subject l) (content l) s.middle s.end p.middle (p.end ∙ ap length p.whole),
+)
 
 -- and the line
 line_there : (bytes : List ℕ) (l : Line) (s : Spot) (all : List ℕ) → IsPut bytes l s all → line_at all s ≡ l
@@ -128,5 +132,5 @@ pub all_kept : (bytes : List ℕ) (l : Line) (s : Spot) (all : List ℕ) (ss ts 
 all_kept bytes l s all ss ts p is kept =
     subst (λ xs. All (IsKept all) xs) (sym is)
     (All-push (IsKept all) ss s
-      (λ k d h. subst (λ b. IsKept b (get_or ss k d)) (sym (whole_is bytes l s all p)) (kept_more bytes (subject l ++ content l) (get_or ss k d) (kept k d h)))
-      (kept_there bytes l s all p))
+    (λ k d h. subst (λ b. IsKept b (get_or ss k d)) (sym (whole_is bytes l s all p)) (kept_more bytes (subject l ++ content l) (get_or ss k d) (kept k d h)))
+    (kept_there bytes l s all p))

@@ -63,7 +63,9 @@ fn push_subject(out: &mut Text, line: &Line<'_>) -> Result<(), Memory>
         Line::Calls { caller, .. } => push_identity(out, caller),
         Line::Claims { function, .. } => push_identity(out, function),
         Line::Instance {
-            family, function, ..
+            family,
+            function,
+            ..
         } => push_two(out, family, function),
         Line::Provides { provided, .. } => push_identity(out, provided),
         Line::Requires { required, .. } => push_identity(out, required),

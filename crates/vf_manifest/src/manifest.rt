@@ -73,7 +73,11 @@ fn used(text: &[u8]) -> Result<(Word<'_>, Word<'_>), WordFault>
 }
 
 #[tactic(auto, unfolding(crate::specs::Reading::signed_at, crate::specs::Reading::both))]
-fn provided(alloc: Global, version: Version, text: &[u8]) -> Result<(Identity<'_>, Word<'_>), WordFault>
+fn provided(
+    alloc: Global,
+    version: Version,
+    text: &[u8],
+) -> Result<(Identity<'_>, Word<'_>), WordFault>
     ensures { Gives (λ x. (x.0, x.1)) result (signed_at version is_identity text.now) }
 {
     match version {
@@ -92,7 +96,11 @@ fn provided(alloc: Global, version: Version, text: &[u8]) -> Result<(Identity<'_
 }
 
 #[tactic(auto, unfolding(crate::specs::Reading::signed_at, crate::specs::Reading::both))]
-fn required(alloc: Global, version: Version, text: &[u8]) -> Result<(Identity<'_>, Word<'_>), WordFault>
+fn required(
+    alloc: Global,
+    version: Version,
+    text: &[u8],
+) -> Result<(Identity<'_>, Word<'_>), WordFault>
     ensures { Gives (λ x. (x.0, x.1)) result (signed_at version is_own_identity text.now) }
 {
     match version {

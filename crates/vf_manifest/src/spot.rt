@@ -61,7 +61,9 @@ pub fn shape_of(line: &Line<'_>) -> Shape
         Line::Calls { caller, callee } => with_two(Kind::Calls, caller, callee),
         Line::Claims { function, claimed } => with_two(Kind::Claims, function, claimed),
         Line::Instance {
-            family, function, ..
+            family,
+            function,
+            ..
         } => Shape {
             kind: Kind::Instance,
             path: family.path().len(),

@@ -97,9 +97,7 @@ pub fn identity_tagged<'a>(
     ensures { IfOk result (λ i. i ≡ meant.identity_tagged snapshot.now scope.now tag.now) }
 {
     match structure_at(scope, tag.as_bytes()) {
-        Some(structure) => {
-            identity_in(snapshot, structure.files.as_slice(), tag.as_bytes())
-        }
+        Some(structure) => { identity_in(snapshot, structure.files.as_slice(), tag.as_bytes()) }
         None => identity_in(snapshot, &[], tag.as_bytes()),
     }
 }
