@@ -1,0 +1,4 @@
+pub mod Meaning
+pub mod Texts
+pub mod Laws
+pub mod Examples
